@@ -1,0 +1,172 @@
+-- Which part of the definition a value of the program's types stands for. Contracts read the program's values through these.
+use Prim.Native.Nat.{ℕ}
+use mathlib.Core.Option.{Option, none, some}
+use mathlib.Core.List.{List, map}
+use lib.ListN.{take}
+use Rattle.settings.specs.Reading.{policyMeant, refusalNumber}
+use Rattle.model.specs.declared.Tid.{Tid}
+use Rattle.model.specs.declared.CoreId.{CoreId}
+use Rattle.model.specs.declared.Tick.{Tick}
+use Rattle.model.specs.declared.OptionTid.{OptionTid}
+use Rattle.model.specs.declared.OptionTid.the-variants as OptionTidCases
+use Rattle.model.specs.declared.OptionCore.{OptionCore}
+use Rattle.model.specs.declared.OptionCore.the-variants as OptionCoreCases
+use Rattle.model.specs.declared.OptionTick.{OptionTick}
+use Rattle.model.specs.declared.OptionTick.the-variants as OptionTickCases
+use Rattle.model.specs.declared.OptionLeave.{OptionLeave}
+use Rattle.model.specs.declared.OptionLeave.the-variants as OptionLeaveCases
+use Rattle.model.specs.declared.OptionOut.{OptionOut}
+use Rattle.model.specs.declared.OptionOut.the-variants as OptionOutCases
+use Rattle.model.specs.declared.CoreState as CoreStates
+use Rattle.model.specs.declared.CoreState.the-variants as CoreStateCases
+use Rattle.model.specs.declared.CoreTicks as Counters
+use Rattle.model.specs.declared.Lane as Lanes
+use Rattle.model.specs.declared.Lane.the-variants as LaneCases
+use Rattle.model.specs.declared.Segment as Segments
+use Rattle.model.specs.declared.LeaveReason as LeaveReasons
+use Rattle.model.specs.declared.LeaveReason.the-variants as ReasonCases
+use Rattle.model.specs.declared.ThreadState as ThreadStates
+use Rattle.model.specs.declared.ThreadState.the-variants as ThreadStateCases
+use Rattle.model.specs.declared.LastLeave as LastLeaves
+use Rattle.model.specs.declared.ThreadStats.{ThreadStats}
+use Rattle.model.specs.declared.ThreadInfo.{ThreadInfo}
+use Rattle.model.specs.declared.SchedEventKind.{SchedEventKind}
+use Rattle.model.specs.declared.SchedEventKind.the-variants as EventCases
+use Rattle.model.specs.declared.SchedEvent.{SchedEvent}
+use Rattle.model.specs.declared.SwitchOut.{SwitchOut}
+use Rattle.model.specs.declared.Switch as Switches
+use Rattle.model.specs.declared.JoinOutcome as JoinOutcomes
+use Rattle.model.specs.declared.JoinOutcome.the-variants as JoinCases
+use Rattle.model.specs.declared.CallAnswer.{CallAnswer}
+use Rattle.model.specs.declared.CallAnswer.the-variants as CallCases
+use Rattle.model.specs.declared.SpawnAnswer.{SpawnAnswer}
+use Rattle.model.specs.declared.SpawnAnswer.the-variants as SpawnCases
+use Rattle.model.specs.declared.JoinAnswer.{JoinAnswer}
+use Rattle.model.specs.declared.JoinAnswer.the-variants as JoinAnswerCases
+use Rattle.model.specs.Types.{CoreState, Idle, Switching, Running, LeaveReason, Exit, Block, Yield, Quantum, Preempt, Forced, ThreadState, Ready, Exited, OnCore, Blocked, LastLeave, Last, Times, Counts, ThreadRecord, CoreTicks, Lane, IdleLane, SwitchLane, RunLane, Segment}
+use Rattle.model.specs.Types.{EventKind, Spawned, Dispatched, Departed, Woken, Reprioritised, Event, Out, SwitchEntry}
+use Rattle.model.specs.Calls.{JoinOutcome, Wait, Done, Invalid, Answer, refused, ok, spawned, joined, switched}
+
+---- optional values
+
+abbrev pub optionTidMeant : OptionTid → Option ℕ
+optionTidMeant OptionTidCases.None = none
+optionTidMeant (OptionTidCases.Some t) = some (t .0)
+
+abbrev pub optionCoreMeant : OptionCore → Option ℕ
+optionCoreMeant OptionCoreCases.None = none
+optionCoreMeant (OptionCoreCases.Some c) = some (c .0)
+
+abbrev pub optionTickMeant : OptionTick → Option ℕ
+optionTickMeant OptionTickCases.None = none
+optionTickMeant (OptionTickCases.Some n) = some (n .0)
+
+---- cores
+
+abbrev pub coreStateMeant : CoreStates.CoreState → CoreState
+coreStateMeant CoreStateCases.Idle = Idle
+coreStateMeant (CoreStateCases.Switching t l) = Switching (t .0) l
+coreStateMeant (CoreStateCases.Running t s) = Running (t .0) s
+
+abbrev pub coreTicksMeant : Counters.CoreTicks → CoreTicks
+coreTicksMeant n = record { busy = n .busy; switching = n .switching; idle = n .idle }
+
+abbrev pub laneMeant : Lanes.Lane → Lane
+laneMeant LaneCases.Idle = IdleLane
+laneMeant (LaneCases.Switch t) = SwitchLane (t .0)
+laneMeant (LaneCases.Run t) = RunLane (t .0)
+
+abbrev pub segmentMeant : Segments.Segment → Segment
+segmentMeant g = record { lane = laneMeant (g .lane); start = g .start .0; end = g .end .0 }
+
+---- threads
+
+abbrev pub reasonMeant : LeaveReasons.LeaveReason → LeaveReason
+reasonMeant ReasonCases.Exit = Exit
+reasonMeant ReasonCases.Block = Block
+reasonMeant ReasonCases.Yield = Yield
+reasonMeant ReasonCases.Quantum = Quantum
+reasonMeant ReasonCases.Preempt = Preempt
+reasonMeant ReasonCases.Forced = Forced
+
+abbrev pub threadStateMeant : ThreadStates.ThreadState → ThreadState
+threadStateMeant ThreadStateCases.Ready = Ready
+threadStateMeant (ThreadStateCases.Running c) = OnCore (c .0)
+threadStateMeant (ThreadStateCases.Blocked t) = Blocked (t .0)
+threadStateMeant ThreadStateCases.Exited = Exited
+
+abbrev pub lastLeaveMeant : LastLeaves.LastLeave → LastLeave
+lastLeaveMeant l = record { tick = l .tick .0; core = l .core .0; reason = reasonMeant (l .reason) }
+
+abbrev pub optionLeaveMeant : OptionLeave → Option LastLeave
+optionLeaveMeant OptionLeaveCases.None = none
+optionLeaveMeant (OptionLeaveCases.Some l) = some (lastLeaveMeant l)
+
+abbrev pub timesMeant : ThreadStats → Times
+timesMeant s = record { arrival = s .arrival .0; firstRun = optionTickMeant (s .«first_run»); finish = optionTickMeant (s .finish) }
+
+abbrev pub countsMeant : ThreadStats → Counts
+countsMeant s =
+    record { run = s .«run_ticks»; ready = s .«ready_ticks»; blocked = s .«blocked_ticks»; dispatches = s .dispatches; preemptions = s .preemptions; yields = s .yields }
+
+abbrev pub threadMeant : ThreadInfo → ThreadRecord
+threadMeant t =
+    record {
+      tid = t .tid .0;
+      parent = optionTidMeant (t .parent);
+      entry = t .«entry_pc»;
+      priority = t .priority;
+      state = threadStateMeant (t .state);
+      last = record { core = optionCoreMeant (t .«last_core»); dispatch = optionTickMeant (t .«last_dispatch»); leave = optionLeaveMeant (t .«last_leave») };
+      times = timesMeant (t .stats);
+      counts = countsMeant (t .stats);
+    }
+
+---- the log
+
+abbrev pub eventKindMeant : SchedEventKind → EventKind
+eventKindMeant (EventCases.Spawn p) = Spawned (optionTidMeant p)
+eventKindMeant (EventCases.Dispatch c) = Dispatched (c .0)
+eventKindMeant (EventCases.Leave c r) = Departed (c .0) (reasonMeant r)
+eventKindMeant EventCases.Wake = Woken
+eventKindMeant (EventCases.Priority n) = Reprioritised n
+
+abbrev pub eventMeant : SchedEvent → Event
+eventMeant e = record { tick = e .tick .0; tid = e .tid .0; kind = eventKindMeant (e .kind) }
+
+---- switch lists
+
+abbrev pub optionOutMeant : OptionOut → Option Out
+optionOutMeant OptionOutCases.None = none
+optionOutMeant (OptionOutCases.Some o) = some (record { tid = o .tid .0; reason = reasonMeant (o .reason) })
+
+abbrev pub switchMeant : Switches.Switch → SwitchEntry
+switchMeant s = record { core = s .core .0; out = optionOutMeant (s .out); inn = optionTidMeant (s .inn) }
+
+-- a switch list in the front of an array
+abbrev pub switchesMeant : List Switches.Switch → (count : ℕ) → List SwitchEntry
+switchesMeant entries count = map switchMeant (take count entries)
+
+---- answers
+
+abbrev pub joinMeant : JoinOutcomes.JoinOutcome → JoinOutcome
+joinMeant JoinCases.Wait = Wait
+joinMeant JoinCases.Done = Done
+joinMeant JoinCases.Invalid = Invalid
+
+abbrev pub callAnswerMeant : CallAnswer → Answer
+callAnswerMeant CallCases.Taken = ok
+callAnswerMeant (CallCases.Refused r) = refused (refusalNumber r)
+
+abbrev pub spawnAnswerMeant : SpawnAnswer → Answer
+spawnAnswerMeant (SpawnCases.Spawned t) = spawned (t .0)
+spawnAnswerMeant (SpawnCases.Refused r) = refused (refusalNumber r)
+
+abbrev pub joinAnswerMeant : JoinAnswer → Answer
+joinAnswerMeant (JoinAnswerCases.Joined o) = joined (joinMeant o)
+joinAnswerMeant (JoinAnswerCases.Refused r) = refused (refusalNumber r)
+
+-- an answer with a switch list: the list counts where the call is taken
+abbrev pub switchAnswerMeant : CallAnswer → List Switches.Switch → (count : ℕ) → Answer
+switchAnswerMeant CallCases.Taken entries count = switched (switchesMeant entries count)
+switchAnswerMeant (CallCases.Refused r) entries count = refused (refusalNumber r)
