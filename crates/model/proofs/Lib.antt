@@ -12,3 +12,5 @@ pub mod ThreadStates
 pub mod Placement
 pub mod RunTicks
 pub mod Bounded
+pub mod Holders
+pub mod StayRun

@@ -26,13 +26,13 @@ pub record Placed (s : State) : Type 0 where
 
 ---- what an unrefused call may count on
 
-check-rest : (n : ℕ) (b : Bool) (r : Option ℕ) → check n b r ≡ none → r ≡ none
+pub check-rest : (n : ℕ) (b : Bool) (r : Option ℕ) → check n b r ≡ none → r ≡ none
 unfolding check
 check-rest n true r e = cc
 check-rest n false r e = e
 
 -- the thread of a core that nobody left is held there
-held-on : (L : States) (i j m : ℕ) (cs : List Core) → m ≡ j + i → Each (CellOK L) j cs → leaving (coreAt cs i) ≡ false → isIdle (coreAt cs i .state) ≡ false → L (tidOf (holder (coreAt cs i .state))) ≡ some (OnCore m)
+pub held-on : (L : States) (i j m : ℕ) (cs : List Core) → m ≡ j + i → Each (CellOK L) j cs → leaving (coreAt cs i) ≡ false → isIdle (coreAt cs i .state) ≡ false → L (tidOf (holder (coreAt cs i .state))) ≡ some (OnCore m)
 unfolding leaving coreAt tidOf
 held-on L i j m [] e h g d = absurd (not-both true refl d)
 held-on L zero j m (c ∷ cs) e h g d = subst (λ (k : ℕ). L (tidOf (holder (c .state))) ≡ some (OnCore k)) (omega arith) (go (c .state) (c .exits || c .blocks) (h .0) g d)
@@ -250,7 +250,7 @@ loose-known L M f x h = go (L x) refl h
     go none e k = absurd k
     go (some l) e k = subst Loose (sym (f x l e)) k
 
-held-ok : (L : States) (i : ℕ) (cs : List Core) → HeldCores L i cs → Each (CellOK L) i cs
+pub held-ok : (L : States) (i : ℕ) (cs : List Core) → HeldCores L i cs → Each (CellOK L) i cs
 held-ok L i [] h = tt
 held-ok L i (c ∷ cs) h = (rw (h .0 .noExit, h .0 .noBlock) (go (c .state) (h .0 .held)), held-ok L (suc i) cs (h .1))
   where
@@ -276,7 +276,7 @@ ok-held L i (c ∷ cs) g h =
     go (Running t s) true e k = absurd (not-both true refl e)
     go (Running t s) false e k = k
 
-any-none : (cs : List Core) (i : ℕ) → anyLeaving cs ≡ false → leaving (coreAt cs i) ≡ false
+pub any-none : (cs : List Core) (i : ℕ) → anyLeaving cs ≡ false → leaving (coreAt cs i) ≡ false
 unfolding anyLeaving coreAt leaving
 any-none [] i e = refl
 any-none (c ∷ cs) zero e = or-false-l (c .exits || c .blocks) _ e
@@ -408,7 +408,7 @@ placed-same s s′ e q c v =
       cores = λ o. subst (λ (M : States). Each (CellOK M) 0 (s′ .cores)) (sym e) (c o);
     }
 
-placed-force : (s : State) (i : ℕ) (n : Option ℕ) → refusal s (force i n) ≡ none → Placed s → Placed (accept s (force i n) .state)
+pub placed-force : (s : State) (i : ℕ) (n : Option ℕ) → refusal s (force i n) ≡ none → Placed s → Placed (accept s (force i n) .state)
 unfolding refusal accept coreStateOf CellsOK
 placed-force s i n r v =
     let r4 = check-rest 4 _ _ r in

@@ -12,15 +12,9 @@ use Rattle.model.specs.Types.{CoreState, Idle, Switching, Running, Leave
 use Rattle.model.specs.Phases.{update, decide}
 use Rattle.model.specs.Accounting.{addCounts, started, left, recordLeave, recordDispatch, logged, applyMove, applyMoves, runsOn, runs, holds, chargeWaiting, chargeThreads, charge}
 use Rattle.model.specs.Calls.{Call, tick, accept, coreAt, rules}
+use Rattle.model.specs.Claims.{runTicks, ranOf}
 
-pub runTicks : Option ThreadRecord → ℕ
-runTicks none = 0
-runTicks (some t) = t .counts .run
-
-pub ranOf : List ThreadRecord → ℕ → ℕ
-ranOf ts x = runTicks (getElem? ts x)
-
-ran-same : (f : ThreadRecord → ThreadRecord) → ((t : ThreadRecord) → f t .counts .run ≡ t .counts .run) → (n : ℕ) (ts : List ThreadRecord) (x : ℕ) → ranOf (update n f ts) x ≡ ranOf ts x
+pub ran-same : (f : ThreadRecord → ThreadRecord) → ((t : ThreadRecord) → f t .counts .run ≡ t .counts .run) → (n : ℕ) (ts : List ThreadRecord) (x : ℕ) → ranOf (update n f ts) x ≡ ranOf ts x
 unfolding ranOf runTicks update
 ran-same f h n [] x = refl
 ran-same f h zero (t ∷ ts) zero = h t
@@ -38,7 +32,7 @@ left-run now i Preempt t = omega arith
 left-run now i Forced t = omega arith
 
 -- moves charge nobody
-applied-ran : (e now : ℕ) (ms : List Move) (b : Accounts) (x : ℕ) → ranOf (applyMoves e now ms b .threads) x ≡ ranOf (b .threads) x
+pub applied-ran : (e now : ℕ) (ms : List Move) (b : Accounts) (x : ℕ) → ranOf (applyMoves e now ms b .threads) x ≡ ranOf (b .threads) x
 unfolding applyMoves applyMove logged started recordDispatch addCounts
 applied-ran e now [] b x = refl
 applied-ran e now (starts t ∷ ms) b x = applied-ran e now ms _ x ∙ ran-same (started now) (λ y. refl) t (b .threads) x

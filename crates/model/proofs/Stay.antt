@@ -12,9 +12,14 @@ use borrow.Author.Tests.{eqb-true, leb-true, leb-false, eq-eqb, ne-eqb}
 use Rattle.model.specs.Types.{Policy, RoundRobin, CoreState, Idle, Switching, Running, LeaveReason, Yield, Quantum, Core, Move, starts, leaves, takes, State}
 use Rattle.model.specs.Phases.{Rules, Turn, Pass, Phase, ascend, andThen, update, without, dispatchedState, dispatchMoves, sliced, phase1, switchedIn, isDue, phase2, leavesFor, holder, vacate, phase3, filled, phase4, handOver, wantsHandOver, quantumOver, quantumOf, phase5, phase6, phases1To4, decide, pickNext, choose, ceilingOf, withState, unyielded}
 use Rattle.model.specs.Calls.{Call, spawn, exit, join, retired, yield, priority, timing, force, tick, close, JoinOutcome, Wait, Done, Invalid, outcome, threadStateOf, tidOn, blocking, exited, markExit, markBlock, markYield, markProgress, accept, stepped, refusal, check, noCore, outOf, coreStateOf, forcedCore, takenBy, new, madeOf, made, Made, refusedNew, initialState, idleCore, beyond, rules, coreAt, isRunning, priorityOf}
-use Rattle.model.specs.Claims.{Observed, gets, takesOn, leavesOn, isNonEmpty, observed, observe, timingIs, timingKept, observeAll, refusalOf, movesOf, conditionsHold, allReported, stillWaited, ticked, addIf, charges, stayConditions, stayTicks, begins, unobserved, StayBound}
+use Rattle.model.specs.Claims.{Observed, gets, takesOn, leavesOn, isNonEmpty, observed, observe, timingIs, timingKept, observeAll, refusalOf, movesOf, conditionsHold, allReported, stillWaited, ticked, addIf, charges, stayConditions, begins, unobserved}
 use Rattle.model.proofs.PhaseLaws.{All, All2, At, ascend-at, ascend-queue, ascend-takes, or-false-l, or-false-r, or-false, or-true-l, or-true-r, not-both, and-l, and-r, and-false, implied, other, andThen-at, andThen-before, at-update, at-core, at-put, ascend-takes-none, andThen-takes, andThen-takes-none}
 use Rattle.model.proofs.Invariants.{Inv, Covers, inv-observed, inv-observeAll, check-none, phase6-rr, Start, start, timingKept-append}
+
+-- the ticks in which core c runs, till its thread leaves
+unfoldable pub stayTicks : (core : ℕ) → Observed → List Call → ℕ
+stayTicks c w [] = 0
+stayTicks c w (k ∷ ks) = addIf (charges c w k) (cond (leavesOn c (movesOf w k)) 0 (stayTicks c (observe w k) ks))
 
 -- the rules of a round robin scheduler
 abbrev pub rr : (quantum cost : ℕ) → (ℕ → ℕ) → Rules
@@ -110,14 +115,14 @@ module _ (q k : ℕ) (pr : ℕ → ℕ) (pos : 1 ≤ q) where
       go (inr (p, y)) = absurd (not-both false (n y) refl)
   room-handOver b m j c (u ∷ qu) (Running t s) true r e es h hs n l = absurd (not-both _ (or-true-l (eqb j j) _ (eq-eqb j j refl)) l)
 
-  chargeWaiting-handOver :
+  waited-handOver :
       (b : Bool) (j : ℕ) (c : Core) (qu : List ℕ) (s : CoreState) (w : Bool) (r : LeaveReason) → Waited b qu → Waited b (handOver (rr q k pr) j c s w (head? qu) r qu .queue)
   unfolding handOver
-  chargeWaiting-handOver b j c qu Idle w r n = n
-  chargeWaiting-handOver b j c qu (Switching t l) w r n = n
-  chargeWaiting-handOver b j c qu (Running t s) false r n = n
-  chargeWaiting-handOver b j c [] (Running t s) true r n = n
-  chargeWaiting-handOver b j c (u ∷ qu) (Running t s) true r n = λ y. subst (λ (l : List ℕ). isNonEmpty l ≡ true) (sym (without-front u (qu ++ (t ∷ [])))) (go qu)
+  waited-handOver b j c qu Idle w r n = n
+  waited-handOver b j c qu (Switching t l) w r n = n
+  waited-handOver b j c qu (Running t s) false r n = n
+  waited-handOver b j c [] (Running t s) true r n = n
+  waited-handOver b j c (u ∷ qu) (Running t s) true r n = λ y. subst (λ (l : List ℕ). isNonEmpty l ≡ true) (sym (without-front u (qu ++ (t ∷ [])))) (go qu)
     where
       go : (l : List ℕ) → isNonEmpty (l ++ (t ∷ [])) ≡ true
       go [] = refl
@@ -132,7 +137,7 @@ module _ (q k : ℕ) (pr : ℕ → ℕ) (pos : 1 ≤ q) where
       let l4 = andThen-before j p4 (phase5 (rr q k pr)) l in
       let l3 = andThen-before j p3 (phase4 (rr q k pr)) l4 in
       let l2 = andThen-before j p2 phase3 l3 in
-      andThen-at (Mid q b m) (Room q m) (Waited b) (phase5 (rr q k pr)) j (λ i c v w. chargeWaiting-handOver b i (unyielded c) v (c .state) _ _ w)
+      andThen-at (Mid q b m) (Room q m) (Waited b) (phase5 (rr q k pr)) j (λ i c v w. waited-handOver b i (unyielded c) v (c .state) _ _ w)
       (λ c v h w e. room-handOver b m j c v (c .state) _ _ refl refl h h w e) p4
       (andThen-at (Mid q b m) (Mid q b m) Any (phase4 (rr q k pr)) j (λ i c v w. tt) (λ c v h w e. mid-filled b m j c v (c .state) _ h h) p3
       (andThen-at (Mid q b m) (Mid q b m) Any phase3 j (λ i c v w. tt) (λ c v h w e. mid-vacate b m j c v (c .state) _ h h e) p2
@@ -418,9 +423,15 @@ begins-fresh c (d′ ∷ ds) d w v t b = begins-fresh c ds d′ (observe w d) (i
 creation-fresh : (q k n : ℕ) (s : State) → Start q k n s → At Fresh 0 (s .cores)
 creation-fresh q k n s z = subst (At Fresh 0) (sym (z .first .1)) refl
 
-pub stay : StayBound
+-- the ticks in which core c ran during its stay; `proofs/StayRun` shows that they are what its thread's record grew by
+pub stay-ticks :
+    (q k n capT capE capS entry : ℕ) (s : State) → new RoundRobin q k n capT capE capS entry ≡ made s →
+    (before during : List Call) → timingKept q k (unobserved s) before ≡ true →
+    (c : ℕ) → begins c (unobserved s) before ≡ true →
+    stayConditions q k c (observeAll (unobserved s) before) during ≡ true →
+    stayTicks c (observeAll (unobserved s) before) during ≤ q
 unfolding begins observeAll unobserved
-stay q k n capT capE capS entry s e before during t c b f =
+stay-ticks q k n capT capE capS entry s e before during t c b f =
     let z = start q k n capT capE capS entry s e in
     stay-room q k (suc (pred n)) (z .pos) c during (observeAll (unobserved s) before) q (inv-observeAll (unobserved s) (z .inv) before t)
     (fresh-room q (z .pos) c (observeAll (unobserved s) before .state .cores) (begun before t b)) f

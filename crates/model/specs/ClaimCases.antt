@@ -6,12 +6,12 @@ use mathlib.Core.Option.{Option, none, some}
 use mathlib.Core.List.{List, [], _∷_, _++_}
 use Rattle.model.specs.Types.{RoundRobin, State}
 use Rattle.model.specs.Calls.{Call, spawn, exit, join, retired, yield, priority, timing, force, tick, close, Made, made, unmade}
-use Rattle.model.specs.Claims.{Observed, gets, takesOn, leavesOn, reportsAfter, reportsCleared, reports, observed, observeAll, unobserved, allReported, conditionsHold, timingKept, waitConditions, ticks, getsWithin, getsNone, begins, stillWaited, stayConditions, stayTicks}
+use Rattle.model.specs.Claims.{Observed, gets, takesOn, leavesOn, reportsAfter, reportsCleared, reports, observed, observeAll, unobserved, allReported, conditionsHold, timingKept, waitConditions, ticks, getsWithin, getsNone, begins, stillWaited, stayConditions, runTicks, ranOf, stayEnd}
 use Rattle.model.specs.Claims.{bound}
 use Rattle.model.specs.Cases.{compute, at}
 
 judge : Unit {0}
-unfolding compute gets takesOn leavesOn reportsAfter reportsCleared reports observed observeAll unobserved allReported conditionsHold timingKept waitConditions ticks getsWithin getsNone begins stillWaited stayConditions stayTicks
+unfolding compute gets takesOn leavesOn reportsAfter reportsCleared reports observed observeAll unobserved allReported conditionsHold timingKept waitConditions ticks getsWithin getsNone begins stillWaited stayConditions runTicks ranOf stayEnd
 judge = tt
 
 abbrev from : {A : Type 0} → Made → A → (State → A) → A
@@ -72,12 +72,12 @@ stay-holds : from board false (λ s. stayConditions 2 1 0 (observeAll (unobserve
 unfolding judge
 stay-holds = refl
 
-stay-charged : from board 0 (λ s. stayTicks 0 (observeAll (unobserved s) start) (turn ++ turn)) ≡ 2
+stay-charged : from board 0 (λ s. ranOf (stayEnd 0 (observeAll (unobserved s) start) (turn ++ turn) .accounts .threads) 1) ≡ 2
 unfolding judge
 stay-charged = refl
 
 -- alone, a thread is charged more: nobody still waited
-alone : from board 0 (λ s. stayTicks 0 (unobserved s) (retired 0 ∷ tick ∷ retired 0 ∷ tick ∷ retired 0 ∷ tick ∷ [])) ≡ 3
+alone : from board 0 (λ s. ranOf (stayEnd 0 (unobserved s) (retired 0 ∷ tick ∷ retired 0 ∷ tick ∷ retired 0 ∷ tick ∷ []) .accounts .threads) 0) ≡ 3
 unfolding judge
 alone = refl
 

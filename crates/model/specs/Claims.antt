@@ -7,8 +7,8 @@ use mathlib.Core.Option.{Option, none, some}
 use mathlib.Core.List.{List, [], _∷_, _++_, map}
 use lib.Dec.{leb, eqb}
 use lib.ListN.{length, getElem?}
-use Rattle.model.specs.Types.{Policy, RoundRobin, CoreState, Idle, Switching, Running, Core, Move, starts, leaves, takes, State}
-use Rattle.model.specs.Phases.{Pass, update, phases1To4}
+use Rattle.model.specs.Types.{Policy, RoundRobin, CoreState, Idle, Switching, Running, Core, Move, starts, leaves, takes, ThreadRecord, State}
+use Rattle.model.specs.Phases.{Pass, update, holder, phases1To4}
 use Rattle.model.specs.Calls.{Call, spawn, exit, join, retired, yield, priority, timing, force, tick, close, Made, made, new, refusal, stepped, rules, coreAt, isRunning, isNone}
 
 ---- what happened
@@ -220,20 +220,29 @@ stayConditions q k c w [] = true
 stayConditions q k c w (d ∷ ds) =
     callConditions w d && ((not (charges c w d) || stillWaited (w .state)) && (leavesOn c (movesOf w d) || (timingIs q k (observe w d .state) && stayConditions q k c (observe w d) ds)))
 
--- the run ticks that core c's thread is charged till it leaves
-unfoldable pub stayTicks : (core : ℕ) → Observed → List Call → ℕ
-stayTicks c w [] = 0
-stayTicks c w (k ∷ ks) = addIf (charges c w k) (cond (leavesOn c (movesOf w k)) 0 (stayTicks c (observe w k) ks))
+-- a thread's run ticks as its record counts them (0 where there is no such thread)
+unfoldable pub runTicks : Option ThreadRecord → ℕ
+runTicks none = 0
+runTicks (some t) = t .counts .run
+
+unfoldable pub ranOf : List ThreadRecord → (tid : ℕ) → ℕ
+ranOf ts x = runTicks (getElem? ts x)
+
+-- 01: "to the next leave"; "a stay still open at its end is limited too": the state after the call with which core c's thread leaves, or at the end of the list
+unfoldable pub stayEnd : (core : ℕ) → Observed → List Call → State
+stayEnd c w [] = w .state
+stayEnd c w (k ∷ ks) = let r = stayEnd c (observe w k) ks in cond (leavesOn c (movesOf w k)) (observe w k .state) r
 
 -- "No thread is charged more run ticks than a quantum in one stay on a core if some thread still waited, after idle cores were filled, at the end
--- of each charged tick."
+-- of each charged tick.": x is the thread of core c when the stay begins, and its own run ticks grow by at most the quantum till the stay ends
 abbrev pub StayBound : Type 0
 StayBound =
     (q k n capT capE capS entry : ℕ) (s : State) → new RoundRobin q k n capT capE capS entry ≡ made s →
     (before during : List Call) → timingKept q k (unobserved s) before ≡ true →
-    (c : ℕ) → begins c (unobserved s) before ≡ true →
+    (c x : ℕ) → begins c (unobserved s) before ≡ true →
+    holder (coreAt (observeAll (unobserved s) before .state .cores) c .state) ≡ some x →
     stayConditions q k c (observeAll (unobserved s) before) during ≡ true →
-    stayTicks c (observeAll (unobserved s) before) during ≤ q
+    ranOf (stayEnd c (observeAll (unobserved s) before) during .accounts .threads) x ≤ ranOf (observeAll (unobserved s) before .state .accounts .threads) x + q
 
 -- demand 3, on the definition
 abbrev pub RoundRobinBounds : Type 0

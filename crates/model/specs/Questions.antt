@@ -1,37 +1,57 @@
--- The read-only questions, which refuse nothing, and the summary's four figures.
-use Prim.Native.Nat.{ℕ, zero, suc}
+-- The read-only questions, named as in the Rust, which refuse nothing; and the summary's four figures.
+-- `config`, `now`, `ready_queue`, `cores`, `core_ticks`, `events` and `context_switches` are the state's own fields.
+use Prim.Native.Nat.{ℕ, zero, suc, _-_}
 use mathlib.Core.Bool.{Bool, true, false, cond, not, _&&_, _||_}
 use mathlib.Core.Option.{Option, none, some}
 use mathlib.Core.List.{List, [], _∷_}
-use lib.ListN.{length}
+use lib.ListN.{length, getElem?}
 use lib.IntN.{pos}
 use lib.Ieee.{Float, fin, binary64, div, ofInt}
-use Rattle.model.specs.Types.{CoreState, Idle, Switching, Running, Core, ThreadState, Ready, Exited, OnCore, Blocked, ThreadRecord, Accounts, State}
+use Rattle.model.specs.Types.{CoreState, Idle, Switching, Running, Core, ThreadState, Ready, Exited, OnCore, Blocked, ThreadRecord, Segment, Accounts, State}
 use Rattle.model.specs.Phases.{holder}
 use Rattle.model.specs.Accounting.{isHolder, Sums, sums}
-use Rattle.model.specs.Calls.{coreStateOf, isRunning}
+use Rattle.model.specs.Calls.{coreStateOf}
 
--- the thread a core executes; the thread that holds it, running or switching in; the core a thread is on
+---- threads and cores
+
+-- `thread`: the record of a thread, if there is one
+unfoldable pub threadAt : State → (tid : ℕ) → Option ThreadRecord
+threadAt s t = getElem? (s .accounts .threads) t
+
+-- `next_tid`: the number that `spawn` hands out next
+unfoldable pub nextTid : State → ℕ
+nextTid s = length (s .accounts .threads)
+
 unfoldable pub runner : CoreState → Option ℕ
 runner Idle = none
 runner (Switching t l) = none
 runner (Running t s) = some t
 
-unfoldable pub runningOn : State → ℕ → Option ℕ
+-- `running_on`: the thread that a core executes; none where it switches, is idle or does not exist
+unfoldable pub runningOn : State → (core : ℕ) → Option ℕ
 runningOn s i = runner (coreStateOf s i)
 
-unfoldable pub threadOn : State → ℕ → Option ℕ
+-- `thread_on`: the thread that holds a core, running or switching in
+unfoldable pub threadOn : State → (core : ℕ) → Option ℕ
 threadOn s i = holder (coreStateOf s i)
 
 unfoldable pub findFrom : ℕ → ℕ → List Core → Option ℕ
 findFrom i t [] = none
 findFrom i t (c ∷ cs) = let r = findFrom (suc i) t cs in cond (isHolder t (holder (c .state))) (some i) r
 
-unfoldable pub coreOf : State → ℕ → Option ℕ
+-- `core_of`: the core that a thread is on
+unfoldable pub coreOf : State → (tid : ℕ) → Option ℕ
 coreOf s t = findFrom 0 t (s .cores)
 
-unfoldable pub nextTid : State → ℕ
-nextTid s = length (s .accounts .threads)
+unfoldable pub orEmpty {ℓ} : {A : Type ℓ} → Option (List A) → List A
+orEmpty none = []
+orEmpty (some l) = l
+
+-- `timeline`: a core's segments, oldest first; none for a core that does not exist
+unfoldable pub timelineOf : State → (core : ℕ) → List Segment
+timelineOf s i = orEmpty (getElem? (s .accounts .timelines) i)
+
+---- what is left to run
 
 unfoldable pub anyThread : (ThreadState → Bool) → List ThreadRecord → Bool
 anyThread p [] = false
@@ -49,20 +69,40 @@ isRunnable Exited = false
 isRunnable (OnCore i) = true
 isRunnable (Blocked t) = false
 
+-- `has_live_threads`: some thread has not exited
 unfoldable pub hasLive : State → Bool
 hasLive s = anyThread isLive (s .accounts .threads)
 
+-- `has_runnable_threads`: some thread holds a core or waits for one
 unfoldable pub hasRunnable : State → Bool
 hasRunnable s = anyThread isRunnable (s .accounts .threads)
 
+-- `is_deadlocked`: threads are left, and all of them are blocked
 unfoldable pub isDeadlocked : State → Bool
 isDeadlocked s = hasLive s && not (hasRunnable s)
 
+---- a thread's times
+
+unfoldable pub passed : (arrival : ℕ) → Option ℕ → Option ℕ
+passed a none = none
+passed a (some n) = some (n - a)
+
+-- `response`: from arrival to first run
+unfoldable pub responseOf : ThreadRecord → Option ℕ
+responseOf t = passed (t .times .arrival) (t .times .firstRun)
+
+-- `turnaround`: from arrival to finish
+unfoldable pub turnaroundOf : ThreadRecord → Option ℕ
+turnaroundOf t = passed (t .times .arrival) (t .times .finish)
+
+---- the summary
+
 -- 01: "Each is an exact sum divided once; over nobody it is 0.0"
-unfoldable pub mean : (sum addCounts : ℕ) → Float
+unfoldable pub mean : (sum count : ℕ) → Float
 mean s zero = fin false 0 (pos 0)
 mean s (suc n) = div binary64 (ofInt binary64 (pos s)) (ofInt binary64 (pos (suc n)))
 
+-- 01: "Four binary64 figures in one record: means of ready ticks (all threads), response (those with a first run), turnaround (finished), and utilization."
 pub record Figures : Type 0 where
   pub waiting : Float
   pub response : Float
