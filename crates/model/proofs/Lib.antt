@@ -14,3 +14,4 @@ pub mod RunTicks
 pub mod Bounded
 pub mod Holders
 pub mod StayRun
+pub mod Figures
