@@ -5,6 +5,7 @@ use mathlib.Core.Option.{Option, none, some}
 use mathlib.Core.List.{List, [], _∷_, _++_, head?}
 use lib.Dec.{leb, ltb, eqb}
 use lib.ListN.{length}
+pub use Rattle.settings.specs.Policy.{isPreemptive}
 use Rattle.model.specs.Types.{Policy, Off, Fifo, RoundRobin, Priority, CoreState, Idle, Switching, Running, LeaveReason, Exit, Block, Yield, Quantum, Preempt, Forced, Core, Move, starts, leaves, takes}
 
 -- what a decision reads besides the cores and the queue
@@ -84,12 +85,6 @@ pickNext k core ceiling q = choose (k .policy) (k .prio) ceiling q
 -- the quantum of a thread (for R-6 and R-7)
 unfoldable pub quantumOf : Rules → (tid : ℕ) → ℕ
 quantumOf k t = k .quantum
-
-abbrev pub isPreemptive : Policy → Bool
-isPreemptive Off = false
-isPreemptive Fifo = false
-isPreemptive RoundRobin = true
-isPreemptive Priority = true
 
 abbrev pub ceilingFor : Policy → ℕ → Option ℕ
 ceilingFor Off n = none

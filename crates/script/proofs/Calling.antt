@@ -7,12 +7,12 @@ use mathlib.Core.List.{List, [], _∷_, _++_}
 use native.Mathlib.Omega.{arith}
 use borrow.Author.Tests.{le-ltb, lt-ltb}
 use Rattle.model.specs.Calls.{Call, spawn, exit, join, retired, yield, priority, force, tick, close}
-use Rattle.settings.specs.Bytes.{ascii, all, lookup, decimal}
-use Rattle.settings.specs.Lines.{Read, bad, good, mapRead, both, value, keyIn, fields, needed, perhaps, one, two}
+use Rattle.text.specs.Bytes.{ascii, all, lookup, decimal}
+use Rattle.text.specs.Lines.{Read, bad, good, mapRead, both, value, keyIn, fields, needed, perhaps, one, two}
 use Rattle.settings.specs.Settings.{Settings, Head, headKeys, CoresKey}
 use Rattle.script.specs.Script.{Heading, more, done, upTo8, coresOf, heading, headLine, CallKey, SpawnKey, ExitKey, JoinKey, RetiredKey, YieldKey, PrioKey, ForceKey, TickKey, CloseKey, callKeys, bareTick, callOf, calling, callLine}
-use Rattle.settings.proofs.Decimal.{all-append}
-use Rattle.settings.proofs.Pieces.{visible, isnt, key-line, value-line, fields-last, fields-comma, decimal-visible, decimal-comma, needed-decimal, perhaps-decimal}
+use Rattle.text.proofs.Decimal.{all-append}
+use Rattle.text.proofs.Pieces.{visible, isnt, key-line, value-line, fields-last, fields-comma, decimal-visible, decimal-comma, needed-decimal, perhaps-decimal}
 
 abbrev pub u32 : ℕ
 u32 = 4_294_967_295

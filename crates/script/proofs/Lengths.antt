@@ -11,11 +11,11 @@ use lib.ListN.{length, length-append}
 use Rattle.model.specs.Types.{LeaveReason, Exit, Block, Yield, Quantum, Preempt, Forced, Policy, Off, Fifo, RoundRobin, Priority, Out, SwitchEntry}
 use Rattle.model.specs.Accounting.{Sums}
 use Rattle.model.specs.Calls.{JoinOutcome, Wait, Done, Invalid}
-use Rattle.settings.specs.Bytes.{ascii, decimal}
-use Rattle.settings.specs.Lines.{commas, written}
+use Rattle.text.specs.Bytes.{ascii, decimal}
+use Rattle.text.specs.Lines.{commas, written}
 use Rattle.settings.specs.Settings.{Settings, policyWord, toRcfg}
 use Rattle.script.specs.Report.{reasonWord, joinWord, maybe, outTid, outReason, switchText, switchTexts, joinedText, refusedText, inTenths, tenths, meanText, summaryText}
-use Rattle.settings.proofs.Decimal.{decimal-length, decimal-some}
+use Rattle.text.proofs.Decimal.{decimal-length, decimal-some}
 
 pub written-length : (key : String) (fs : List (List ℕ)) → length (written key fs) ≡ length (ascii key) + length (commas fs) + 2
 unfolding written

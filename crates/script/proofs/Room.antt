@@ -15,8 +15,8 @@ use Rattle.model.specs.Calls.{Call, spawn, exit, join, retired, yield, priority
 use Rattle.model.proofs.PhaseLaws.{All}
 use Rattle.model.proofs.Invariants.{check-none}
 use Rattle.model.proofs.Preempt.{AllO}
-use Rattle.settings.specs.Bytes.{number}
-use Rattle.settings.specs.Lines.{Read, bad, good, orBad, mapRead, both, cut, lineOf, value, keyIn, fields, needed, perhaps, one, two}
+use Rattle.text.specs.Bytes.{number}
+use Rattle.text.specs.Lines.{Read, bad, good, orBad, mapRead, both, cut, lineOf, value, keyIn, fields, needed, perhaps, one, two}
 use Rattle.settings.specs.Settings.{Settings, Head, HeadKey, PolicyKey, QuantumKey, CostKey, CoresKey, headKeys, policyOf, ranged, inOrder, setting}
 use Rattle.script.specs.Script.{Heading, more, done, upTo8, coresOf, heading, headLine, CallKey, SpawnKey, ExitKey, JoinKey, RetiredKey, YieldKey, PrioKey, ForceKey, TickKey, CloseKey, callKeys, bareTick, callOf, calling, callLine}
 use Rattle.script.specs.Report.{Stage, heads, calls, ended, over, Report, Fed, start, refusedText, answerText, summary, created, begun, headed, said, called, fed, limitLines, lineAt, feed, feeds, finishing, finish, whole, report}

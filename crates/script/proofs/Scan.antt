@@ -7,7 +7,7 @@ use native.Mathlib.Omega.{arith}
 use lib.ListN.{length}
 use Rattle.model.specs.Types.{State}
 use Rattle.model.specs.Calls.{Call, Made, made, unmade}
-use Rattle.settings.specs.Lines.{Read, bad, good, cut}
+use Rattle.text.specs.Lines.{Read, bad, good, cut}
 use Rattle.settings.specs.Settings.{Head, noneYet}
 use Rattle.script.specs.Script.{Heading, more, done, headLine, callLine}
 use Rattle.script.specs.Report.{Stage, heads, calls, ended, over, Report, Fed, start, created, begun, headed, said, called, fed, lineAt, feed, report}

@@ -9,12 +9,12 @@ use borrow.Author.Tests.{lt-leb, not-true}
 use lib.Dec.{leb, eqb}
 use lib.ListN.{length}
 use Rattle.model.specs.Types.{State}
-use Rattle.settings.specs.Bytes.{all}
-use Rattle.settings.specs.Lines.{onto, cut, lineOf}
+use Rattle.text.specs.Bytes.{all}
+use Rattle.text.specs.Lines.{onto, cut, lineOf}
 use Rattle.script.specs.Report.{Stage, heads, calls, ended, over, Report, Fed, start, at, summary, fed, lineAt, feed, feeds, finishing, finish, whole, report}
 use Rattle.script.specs.Stream.{StreamState, Consumed, ending, consume, consumeAll, endPart, endStream, fresh}
-use Rattle.settings.proofs.Decimal.{and-fst, and-snd, and-both, all-append}
-use Rattle.settings.proofs.Pieces.{isnt, cut-nil, cut-here, cut-open}
+use Rattle.text.proofs.Decimal.{and-fst, and-snd, and-both, all-append}
+use Rattle.text.proofs.Pieces.{isnt, cut-nil, cut-here, cut-open}
 
 ---- lines one after the other
 

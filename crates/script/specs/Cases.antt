@@ -12,8 +12,8 @@ use Rattle.model.specs.Types.{Policy, Off, Fifo, RoundRobin, Priority}
 use Rattle.model.specs.Calls.{Made, made, unmade}
 use Rattle.model.specs.Claims.{bound}
 use Rattle.model.specs.Cases.{compute}
-use Rattle.settings.specs.Bytes.{ascii, same, digits, decimal, valueFrom, spelled, unsigned, atMost, number}
-use Rattle.settings.specs.Lines.{orBad, mapRead, both, onto, cut, before, unended, lineOf, beforeEq, value, named, keyIn, fields, needed, perhaps, one, two, commas, written}
+use Rattle.text.specs.Bytes.{ascii, same, digits, decimal, valueFrom, spelled, unsigned, atMost, number}
+use Rattle.text.specs.Lines.{orBad, mapRead, both, onto, cut, before, unended, lineOf, beforeEq, value, named, keyIn, fields, needed, perhaps, one, two, commas, written}
 use Rattle.settings.specs.Settings.{Settings, policyOf, ranged, inOrder, setting, settingLine, Settled, unsettled, settled, settingPiece, settle, fromRcfg, toRcfg}
 use Rattle.script.specs.Script.{upTo8, coresOf, heading, headLine, bareTick, callOf, calling, callLine}
 use Rattle.script.specs.Report.{maybe, outTid, outReason, switchText, switchTexts, joinedText, refusedText, answerText, inTenths, tenths, meanText, summaryText, summary, created, begun, headed, said, called, fed, limitLines, lineAt, feed, feeds, finishing, finish, whole, report}

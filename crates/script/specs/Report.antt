@@ -7,8 +7,8 @@ use lib.Dec.{leb}
 use Rattle.model.specs.Types.{LeaveReason, Exit, Block, Yield, Quantum, Preempt, Forced, Out, SwitchEntry, State}
 use Rattle.model.specs.Accounting.{Sums, sums}
 use Rattle.model.specs.Calls.{Call, JoinOutcome, Wait, Done, Invalid, Answer, refused, ok, spawned, joined, switched, Stepped, step, Made, unmade, made, new}
-use Rattle.settings.specs.Bytes.{ascii, decimal}
-use Rattle.settings.specs.Lines.{Read, bad, good, cut, lineOf, written}
+use Rattle.text.specs.Bytes.{ascii, decimal}
+use Rattle.text.specs.Lines.{Read, bad, good, cut, lineOf, written}
 use Rattle.settings.specs.Settings.{Settings, Head, noneYet}
 use Rattle.script.specs.Script.{Heading, more, done, headLine, callLine}
 

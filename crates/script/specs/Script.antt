@@ -5,8 +5,8 @@ use mathlib.Core.Option.{Option, none, some}
 use mathlib.Core.List.{List, [], _∷_}
 use lib.Dec.{ltb}
 use Rattle.model.specs.Calls.{Call, spawn, exit, join, retired, yield, priority, force, tick, close}
-use Rattle.settings.specs.Bytes.{ascii}
-use Rattle.settings.specs.Lines.{Read, bad, good, mapRead, both, value, keyIn, fields, needed, perhaps, one, two}
+use Rattle.text.specs.Bytes.{ascii}
+use Rattle.text.specs.Lines.{Read, bad, good, mapRead, both, value, keyIn, fields, needed, perhaps, one, two}
 use Rattle.settings.specs.Settings.{Settings, Head, HeadKey, PolicyKey, QuantumKey, CostKey, CoresKey, headKeys, setting}
 
 ---- up to `cores=`

@@ -1,5 +1,5 @@
 -- Laws of the definition of the settings.
-pub mod Decimal
-pub mod Pieces
 pub mod RoundTrip
-pub mod Places
+pub mod Words
+pub mod Settling
+pub mod Laying

@@ -11,17 +11,11 @@ use lib.Dec.{ltb}
 use lib.ListN.{length}
 use Rattle.settings.specs.Policy.{Policy, Off, Fifo, RoundRobin, Priority}
 use Rattle.settings.specs.Policy.{beyond}
-use Rattle.settings.specs.Bytes.{ascii, all, decimal, lookup}
-use Rattle.settings.specs.Lines.{Read, bad, good, orBad, mapRead, cut, lineOf, value, keyIn, needed, commas, written}
-use Rattle.settings.specs.Settings.{Settings, defaults, policyOf, ranged, HeadKey, PolicyKey, QuantumKey, CostKey, headKeys, Head, noneYet, inOrder, setting, settingLine, Settled, settled, settingPiece, settle, fromRcfg, policyWord, toRcfg}
-use Rattle.settings.proofs.Decimal.{decimal-length}
-use Rattle.settings.proofs.Pieces.{visible, isnt, cut-nil, key-line, value-line, cut-written, line-written, decimal-visible, needed-decimal}
-
--- 01: "Quantum 1 to 1,000,000; switch cost 0 to 10,000."
-pub record Within (s : Settings) : Type 0 where
-  pub low : 1 ≤ s .quantum
-  pub high : s .quantum ≤ 1_000_000
-  pub small : s .cost ≤ 10_000
+use Rattle.text.specs.Bytes.{ascii, all, decimal, lookup}
+use Rattle.text.specs.Lines.{Read, bad, good, orBad, mapRead, cut, lineOf, value, keyIn, needed, commas, written}
+use Rattle.settings.specs.Settings.{Settings, Within, defaults, policyOf, ranged, HeadKey, PolicyKey, QuantumKey, CostKey, headKeys, Head, noneYet, inOrder, setting, settingLine, Settled, settled, settingPiece, settle, fromRcfg, policyWord, toRcfg}
+use Rattle.text.proofs.Decimal.{decimal-length}
+use Rattle.text.proofs.Pieces.{visible, isnt, cut-nil, key-line, value-line, cut-written, line-written, decimal-visible, needed-decimal}
 
 -- what a settings line sets that holds one value of visible bytes
 module _ (key : String) (v : List ℕ) (hk : all visible (ascii key) ≡ true) (he : all (isnt 61) (ascii key) ≡ true) (hv : all visible v ≡ true) (n : length (ascii key) + length v ≤ 254) where
@@ -46,18 +40,18 @@ policy-visible Fifo = refl
 policy-visible RoundRobin = refl
 policy-visible Priority = refl
 
-policy-short : (p : Policy) → length (policyWord p) ≤ 8
+pub policy-short : (p : Policy) → length (policyWord p) ≤ 8
 policy-short Off = omega arith
 policy-short Fifo = omega arith
 policy-short RoundRobin = omega arith
 policy-short Priority = omega arith
 
 -- a line read, the rest follows
-settle-step : (n : ℕ) (h h′ : Head) (l : List ℕ) (ls : List (List ℕ)) → settingPiece h (lineOf l) ≡ good h′ → settle n h (l ∷ ls) ≡ settle (suc n) h′ ls
+pub settle-step : (n : ℕ) (h h′ : Head) (l : List ℕ) (ls : List (List ℕ)) → settingPiece h (lineOf l) ≡ good h′ → settle n h (l ∷ ls) ≡ settle (suc n) h′ ls
 unfolding settle
 settle-step n h h′ l ls e = rw (e, settle)
 
-settle-nil : (n : ℕ) (h : Head) → settle n h [] ≡ settled (h .settings)
+pub settle-nil : (n : ℕ) (h : Head) → settle n h [] ≡ settled (h .settings)
 unfolding settle
 settle-nil n h = refl
 

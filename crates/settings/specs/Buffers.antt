@@ -1,21 +1,16 @@
--- Texts laid into lent buffers.
-use Prim.Native.Nat.{ℕ, zero, suc}
-use mathlib.Core.Bool.{Bool, true, false, cond}
-use mathlib.Core.Option.{Option, none, some}
-use mathlib.Core.List.{List, [], _∷_, _++_}
+-- Settings written into a lent buffer.
+use Prim.Native.Nat.{ℕ}
+use mathlib.Core.Bool.{cond}
+use mathlib.Core.List.{List}
 use lib.Dec.{leb}
-use lib.ListN.{length, drop}
-use Rattle.settings.specs.Settings.{Settings, toRcfg}
-
-pub record Laid : Type 0 where
-  pub refusal : Option ℕ
-  pub count : ℕ
-  pub buffer : List ℕ
-
--- 3 text buffer short: then nothing is written. Otherwise the buffer behind the text is unchanged.
-unfoldable pub laid : (text buffer : List ℕ) → Laid
-laid t b = cond (leb (length t) (length b)) (record { refusal = none; count = length t; buffer = t ++ drop (length t) b }) (record { refusal = some 3; count = 0; buffer = b })
+use lib.ListN.{length}
+use Rattle.text.specs.Buffers.{Laid, laid}
+use Rattle.settings.specs.Settings.{Settings, Settled, unsettled, toRcfg, fromRcfg}
 
 -- 01: "`to_rcfg` writes all three as the Rust does, whatever the numbers, refuses only by 3, and leaves the buffer behind the text unchanged"
 unfoldable pub toRcfgIn : Settings → List ℕ → Laid
 toRcfgIn s b = laid (toRcfg s) b
+
+-- settings written into a buffer and read back from it; refused by 3, of no line, where the buffer is short
+unfoldable pub writtenAndRead : Settings → List ℕ → Settled
+writtenAndRead s b = cond (leb (length (toRcfg s)) (length b)) (fromRcfg (toRcfg s)) (unsettled 0 3)

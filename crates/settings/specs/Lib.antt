@@ -1,7 +1,5 @@
--- The definition of the settings: bytes, lines, the policies, the three settings, texts in lent buffers.
+-- The definition of the settings: the policies, the three settings, their text in lent buffers.
 pub mod Policy
-pub mod Bytes
-pub mod Lines
 pub mod Settings
 pub mod Buffers
 pub mod Reading

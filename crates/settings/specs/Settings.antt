@@ -1,13 +1,13 @@
 -- Settings: the eleven words, the three keys in their order, the limits, and the text written.
-use Prim.Native.Nat.{ℕ, zero, suc}
+use Prim.Native.Nat.{ℕ, zero, suc, _≤_}
 use mathlib.Core.Bool.{Bool, true, false, cond}
 use mathlib.Core.Option.{Option, none, some}
 use mathlib.Core.List.{List, [], _∷_, _++_, map}
 use lib.Dec.{leb}
 use Rattle.settings.specs.Policy.{Policy, Off, Fifo, RoundRobin, Priority}
 use Rattle.settings.specs.Policy.{beyond}
-use Rattle.settings.specs.Bytes.{ascii, lowerOf, lookup, decimal}
-use Rattle.settings.specs.Lines.{Read, bad, good, orBad, mapRead, cut, lineOf, value, keyIn, needed, written}
+use Rattle.text.specs.Bytes.{ascii, lowerOf, lookup, decimal}
+use Rattle.text.specs.Lines.{Read, bad, good, orBad, mapRead, cut, lineOf, value, keyIn, needed, written}
 
 pub record Settings : Type 0 where
   pub policy : Policy
@@ -28,12 +28,31 @@ policyWords =
     (ascii "rr", RoundRobin) ∷ (ascii "round-robin", RoundRobin) ∷ (ascii "roundrobin", RoundRobin) ∷ (ascii "round_robin", RoundRobin) ∷
     (ascii "priority", Priority) ∷ (ascii "prio", Priority) ∷ []
 
+-- the table's columns
+abbrev pub entryWord : List ℕ × Policy → List ℕ
+entryWord e = e .0
+
+abbrev pub words : List (List ℕ)
+words = map entryWord policyWords
+
+abbrev pub entryPolicy : List ℕ × Policy → Policy
+entryPolicy e = e .1
+
+abbrev pub policies : List Policy
+policies = map entryPolicy policyWords
+
 unfoldable pub policyOf : List ℕ → Option Policy
 policyOf v = lookup (map lowerOf v) policyWords
 
 unfoldable pub ranged : (low high : ℕ) → Read ℕ → Read ℕ
 ranged a b (bad k) = bad k
 ranged a b (good n) = cond (beyond a b n) (bad 1) (good n)
+
+-- 01: "Quantum 1 to 1,000,000; switch cost 0 to 10,000."
+pub record Within (s : Settings) : Type 0 where
+  pub low : 1 ≤ s .quantum
+  pub high : s .quantum ≤ 1_000_000
+  pub small : s .cost ≤ 10_000
 
 -- the keys before the calls; `cores` is the script's and no setting (`specs/Script.antt`)
 pub data HeadKey : Type 0 where
@@ -88,6 +107,13 @@ policyWord Off = ascii "off"
 policyWord Fifo = ascii "fifo"
 policyWord RoundRobin = ascii "rr"
 policyWord Priority = ascii "priority"
+
+-- the names that the Rust's `label` has
+abbrev pub policyLabel : Policy → List ℕ
+policyLabel Off = ascii "off"
+policyLabel Fifo = ascii "FIFO"
+policyLabel RoundRobin = ascii "Round robin"
+policyLabel Priority = ascii "Priority"
 
 -- 01: "`to_rcfg` writes all three as the Rust does, whatever the numbers"
 unfoldable pub toRcfg : Settings → List ℕ

@@ -1,4 +1,12 @@
 // The settings: policies, their words, the three settings with their limits, and their text.
+ghost use mathlib.Core.Path.{_≡_};
+ghost use Rattle.settings.specs.Settings.{defaults};
+ghost use Rattle.settings.specs.Reading.{settingsMeant, refusalNumber};
+
+pub mod numbers;
+pub mod policy;
+pub mod reading;
+pub mod writing;
 
 // How the threads share the cores.
 pub enum SchedPolicy {
@@ -15,6 +23,26 @@ pub struct SchedConfig {
     pub quantum: u32,
     // Ticks a core spends switching from one thread to another.
     pub switch_cost: u32,
+}
+
+impl SchedConfig {
+    pub const DEFAULT_QUANTUM: u32 = 50;
+
+    pub const DEFAULT_SWITCH_COST: u32 = 0;
+
+    pub const MAX_QUANTUM: u32 = 1_000_000;
+
+    pub const MAX_SWITCH_COST: u32 = 10_000;
+
+    pub fn default() -> SchedConfig
+        ensures { λ r. ⌜ settingsMeant r ≡ defaults ⌝ }
+    {
+        SchedConfig {
+            policy: SchedPolicy::Off,
+            quantum: SchedConfig::DEFAULT_QUANTUM,
+            switch_cost: SchedConfig::DEFAULT_SWITCH_COST,
+        }
+    }
 }
 
 // Every refusal that the paper numbers; specs/Reading.antt gives each its number.
@@ -36,4 +64,82 @@ pub enum Refusal {
     ThreadsFull,
     ClockLimit,
     CounterLimit,
+}
+
+impl Refusal {
+    // The paper's number.
+    pub fn number(self) -> u64
+        ensures { λ r. ⌜ r ≡ refusalNumber self ⌝ }
+    {
+        match self {
+            Refusal::SettingRange => 1,
+            Refusal::CoreCount => 2,
+            Refusal::Capacity => 3,
+            Refusal::NoCore => 4,
+            Refusal::NoThread => 5,
+            Refusal::BadLine => 6,
+            Refusal::BadPolicy => 7,
+            Refusal::BadNumber => 8,
+            Refusal::Closed => 11,
+            Refusal::Leaving => 12,
+            Refusal::NotRunning => 13,
+            Refusal::StillSwitching => 14,
+            Refusal::NotReady => 15,
+            Refusal::NobodyWaits => 16,
+            Refusal::ThreadsFull => 17,
+            Refusal::ClockLimit => 18,
+            Refusal::CounterLimit => 19,
+        }
+    }
+}
+
+// A word of at most 11 bytes: the first `len` of `bytes`.
+pub struct Word {
+    pub bytes: [u8; 11],
+    pub len: usize,
+}
+
+// The policy that a word names.
+pub enum PolicyFound {
+    Is(SchedPolicy),
+    Unknown,
+}
+
+// A setting's number, or why it is refused.
+pub enum Ranged {
+    Is(u32),
+    Refused(Refusal),
+}
+
+// The keys before the calls of a script; only the first three are settings.
+pub enum HeadKey {
+    Policy,
+    Quantum,
+    SwitchCost,
+    Cores,
+    Unknown,
+}
+
+// What the lines so far have set, and how many of the three keys may no longer come.
+pub struct Head {
+    pub config: SchedConfig,
+    pub past: u32,
+}
+
+// What one more line makes of it.
+pub enum HeadRead {
+    Head(Head),
+    Refused(Refusal),
+}
+
+// What a text of settings says, or its first bad line.
+pub enum Settled {
+    Config(SchedConfig),
+    Refused { line: u64, refusal: Refusal },
+}
+
+// How many bytes were written, or why none.
+pub enum Written {
+    Count(usize),
+    Refused(Refusal),
 }

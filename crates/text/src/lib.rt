@@ -1,0 +1,10 @@
+// Text as the settings and the scripts have it: lines, numbers, and texts put into lent buffers.
+pub mod lines;
+pub mod numbers;
+pub mod put;
+
+// A number as `parse::<u32>` reads it.
+pub enum Number {
+    Is(u32),
+    Unreadable,
+}
