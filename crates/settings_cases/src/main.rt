@@ -2,17 +2,17 @@
 // byte 10, and then its bytes. What each case reads as is printed, and settings are written, refused a short buffer and read back.
 use libc::STDIN_FILENO;
 use libc::STDOUT_FILENO;
-use text::Number;
 use settings::Refusal;
 use settings::SchedConfig;
 use settings::SchedPolicy;
 use settings::Settled;
 use settings::Written;
-use text::numbers::read_number;
 use settings::reading::from_rcfg;
 use settings::writing::to_rcfg;
 use settings::writing::write_and_read;
+use text::Number;
 use text::lines::piece_end;
+use text::numbers::read_number;
 
 fn main() {
     let mut input = io::large_buffer();

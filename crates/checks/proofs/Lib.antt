@@ -1,0 +1,3 @@
+pub mod Ladder
+pub mod Refusals
+pub mod Answers

@@ -1,0 +1,5 @@
+pub mod Slide
+pub mod Scan
+pub mod Words
+pub mod Frames
+pub mod Search

@@ -1,0 +1,5 @@
+pub mod Charging
+pub mod Moving
+pub mod Steps
+pub mod Summing
+pub mod Waking

@@ -1,0 +1,5 @@
+pub mod Changes
+pub mod Charging
+pub mod Moves
+pub mod Totals
+pub mod Waking

@@ -1,0 +1,11 @@
+// The calls that touch neither thread records nor lent memory: `retired` and `set_timing`.
+pub mod marks;
+
+use model::CallAnswer;
+use state::Sched;
+
+// The state that a call leaves, with its answer.
+pub struct Answered {
+    pub sched: Sched,
+    pub answer: CallAnswer,
+}

@@ -1,0 +1,62 @@
+// The two calls that touch neither records nor lent memory.
+use crate::Answered;
+use checks::check_retired;
+use checks::check_timing;
+use model::CallAnswer;
+use model::CoreId;
+use state::Sched;
+ghost use mathlib.Core.Path.{_≡_};
+ghost use mathlib.Core.List.{List};
+ghost use Prim.Native.Nat.{ℕ, _≤_, max};
+ghost use Rattle.model.specs.declared.ThreadInfo.{ThreadInfo};
+ghost use Rattle.model.specs.Reading.{callAnswerMeant};
+ghost use Rattle.model.specs.Calls as Calls;
+ghost use Rattle.state.specs.State.{Valid};
+ghost use Rattle.state.specs.Done.{Done};
+
+// "`retired` sets the core's progressed mark, also on an idle or switching core."
+pub fn retired(s: Sched, core: CoreId) -> Answered
+    requires { ⌜ s .cores ≤ 8 ⌝ }
+    ensures { λ r. ⌜ ((ts : List ThreadInfo) (qs ps ls ws : List ℕ) → Valid s ts qs ps ls ws → Done (Calls.retired (core .0)) (callAnswerMeant (r .answer)) s (r .sched) ts ts qs qs ps ps ls ls ws ws) ⌝ }
+{
+    let answer = check_retired(s, core);
+    match answer {
+        CallAnswer::Refused(_) => Answered { sched: s, answer },
+        CallAnswer::Taken => {
+            let i = core.0 as usize;
+            let mut next = s;
+            next.progressed[i] = true;
+            Answered {
+                sched: next,
+                answer,
+            }
+        }
+    }
+}
+
+// "`set_timing` turns quantum 0 into 1."
+pub fn set_timing(s: Sched, quantum: u32, switch_cost: u32) -> Answered
+    ensures { λ r. ⌜ ((ts : List ThreadInfo) (qs ps ls ws : List ℕ) → Valid s ts qs ps ls ws → Done (Calls.timing quantum «switch_cost») (callAnswerMeant (r .answer)) s (r .sched) ts ts qs qs ps ps ls ls ws ws) ⌝ }
+{
+    let answer = check_timing(s, quantum, switch_cost);
+    match answer {
+        CallAnswer::Refused(_) => Answered { sched: s, answer },
+        CallAnswer::Taken => {
+            let mut config = s.config;
+            config.quantum = at_least_one(quantum);
+            config.switch_cost = switch_cost;
+            let mut next = s;
+            next.config = config;
+            Answered {
+                sched: next,
+                answer,
+            }
+        }
+    }
+}
+
+pub fn at_least_one(n: u32) -> u32
+    ensures { λ r. ⌜ r ≡ max n 1 ⌝ }
+{
+    if n == 0 { 1 } else { n }
+}

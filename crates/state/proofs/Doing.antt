@@ -1,0 +1,48 @@
+-- How a call's promise is made: refused, or taken with the state's equation and what fits; that the counters stay within bounds is the definition's.
+use Prim.Native.Nat.{ℕ}
+use mathlib.Core.Path.{_≡_, refl, sym, ap, _∙_, subst}
+use mathlib.Core.Option.{Option, none, some}
+use mathlib.Core.List.{List, map}
+use lib.ListN.{length, take}
+use Rattle.model.specs.declared.ThreadInfo.{ThreadInfo}
+use Rattle.model.specs.Types.{ThreadRecord, State}
+use Rattle.model.specs.Calls.{Call, Answer, refused, refusal, accept, stepped, step}
+use Rattle.model.proofs.Bounded.{Bounded, bounded-accept}
+use Rattle.state.specs.declared.Sched.{Sched}
+use Rattle.state.specs.State.{statesOf, meant, Sizes, Rings, Marks, Valid}
+use Rattle.state.specs.Done.{Frame, Same, Done}
+
+module _ (c : Call) (s : Sched) (ts : List ThreadInfo) (qs ps ls ws : List ℕ) (v : Valid s ts qs ps ls ws) where
+  abbrev M : State
+  M = meant s ts qs ls ws
+
+  pub done-refused : (n : ℕ) → refusal M c ≡ some n → Done c (refused n) s s ts ts qs qs ps ps ls ls ws ws
+  unfolding step stepped
+  done-refused n e =
+      record {
+        state = rw e;
+        answer = rw e;
+        valid = v;
+        same = λ m k. record { sched = refl; threads = refl; queue = refl; prios = refl; log = refl; lanes = refl };
+        frame = record { threads = refl; queue = refl; prios = refl; log = refl; lanes = refl };
+      }
+
+  -- a taken call never answers with a refusal
+  abbrev Unrefused : Answer → Type 0
+  Unrefused a = (n : ℕ) → a ≡ refused n → ⊥
+
+  pub done-taken :
+      (a : Answer) (s' : Sched) (ts' : List ThreadInfo) (qs' ps' ls' ws' : List ℕ) → refusal M c ≡ none → meant s' ts' qs' ls' ws' ≡ accept M c .state → a ≡ accept M c .answer → Unrefused a
+      → Sizes (s' .capacities) (s' .cores) (s' .threads) (s' .queued) ts' qs' ps' ls' ws' → Rings (s' .capacities) (s' .cores) (s' .log) (s' .lanes) ls' ws'
+      → Marks (s' .cores) (statesOf (s' .states)) (s' .exits) (s' .blocks) (s' .yields) (s' .progressed) → length (s' .ticks) ≡ 8
+      → take (s' .threads) ps' ≡ map (λ (t : ThreadRecord). t .priority) (meant s' ts' qs' ls' ws' .accounts .threads) → Frame s s' ts ts' qs qs' ps ps' ls ls' ws ws'
+      → Done c a s s' ts ts' qs qs' ps ps' ls ls' ws ws'
+  unfolding step stepped
+  done-taken a s' ts' qs' ps' ls' ws' e st an un si ri ma ti pr fr =
+      record {
+        state = rw e st;
+        answer = rw e an;
+        valid = record { sizes = si; rings = ri; marks = ma; ticks = ti; priorities = pr; bounded = subst Bounded (sym st) (bounded-accept M c e (v .bounded)) };
+        same = λ n k. absurd (un n k);
+        frame = fr;
+      }

@@ -1,0 +1,3 @@
+pub mod Whole
+pub mod Firsts
+pub mod Doing

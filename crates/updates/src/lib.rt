@@ -1,0 +1,1 @@
+// What the calls over thread records share: how one record's change completes a call. No code.
