@@ -1,6 +1,6 @@
 -- What `core_threads` makes of the cores says who runs and who holds a core, and charging reads the cores' states only.
 use Prim.Native.Nat.{ℕ, zero, suc, _+_, _<_, _≤_}
-use mathlib.Core.Path.{_≡_, refl, sym, ap, subst, _∙_}
+use mathlib.Core.Path.{_≡_, refl, sym, ap, _∙_}
 use mathlib.Core.Bool.{Bool, true, false, cond, _||_}
 use mathlib.Core.List.{List, [], _∷_, _++_, map, map-append}
 use native.Mathlib.Numerals.{add-one}
@@ -17,7 +17,7 @@ use Rattle.model.specs.Phases.{holder}
 use Rattle.model.specs.Reading.{coreStateMeant}
 use Rattle.model.specs.Accounting
 use Rattle.model.specs.Accounting.{addCounts, setCounts, runs, runsOn, holds, isHolder, chargeWaiting, chargeThreads}
-use Rattle.model.specs.Calls.{elem, idleCore}
+use Rattle.model.specs.Calls.{elem}
 use Rattle.records.specs.declared.charge.CoreThreads.{CoreThreads}
 use Rattle.records.specs.Charging.{nobody, runnerWord, holderWord, coreThreadsOf, coresMeant, chargeThread, runDue, readyDue, blockedDue}
 

@@ -1,8 +1,8 @@
 -- A move's word, and what the moves make of the records.
-use Prim.Native.Nat.{ℕ, zero, suc, _+_, _<_}
+use Prim.Native.Nat.{ℕ, zero, suc}
 use mathlib.Core.Path.{_≡_, refl, ap, _∙_}
 use mathlib.Core.List.{List, [], _∷_}
-use Rattle.model.specs.Types.{Move, starts, leaves, takes, ThreadRecord, Accounts}
+use Rattle.model.specs.Types.{Move, starts, leaves, takes, Accounts}
 use Rattle.model.specs.Phases.{update}
 use Rattle.model.specs.Accounting.{logged, applyMove, applyMoves}
 use Rattle.records.specs.Moves.{moveOf, moveTid, movedThread, movedThreads}

@@ -1,12 +1,13 @@
 -- A change that is made in two or three steps on a record is the definition's.
 use mathlib.Core.Path.{_≡_, refl, sym, ap, subst, _∙_}
+use mathlib.Core.List.{[], _∷_}
 use mathlib.Core.Option.{Option, none, some}
 use Prim.Native.Nat.{ℕ, _+_, _<_, _^_}
 use native.Mathlib.Nat.{add-zero}
 use native.Mathlib.Omega.{arith}
 use borrow.Author.Tests.{eq-eqb}
-use Rattle.model.specs.Types.{ThreadRecord, ThreadState, Ready, Exited, OnCore, Blocked, LeaveReason}
-use Rattle.model.specs.Calls.{outcome, Invalid}
+use Rattle.model.specs.Types.{ThreadRecord, ThreadState, Ready, Exited, OnCore, Blocked, LeaveReason, Config}
+use Rattle.model.specs.Calls.{outcome, Invalid, initialState}
 use Rattle.model.specs.Accounting.{addCounts, setCounts, setState, setLast, setTimes, finished, started, recordLeave, recordDispatch, left, born, orElse}
 use Rattle.records.specs.Changes.{firstThread}
 
@@ -69,3 +70,8 @@ of-self self target Ready e = rw (eq-eqb target self e)
 of-self self target Exited e = rw (eq-eqb target self e)
 of-self self target (OnCore i) e = rw (eq-eqb target self e)
 of-self self target (Blocked u) e = rw (eq-eqb target self e)
+
+-- the one thread that a new scheduler has
+pub initial-thread : (cores entry : ℕ) (k : Config) → initialState cores entry k .accounts .threads ≡ firstThread entry ∷ []
+unfolding initialState
+initial-thread cores entry k = refl

@@ -1,17 +1,17 @@
 -- Sums over lists of thread records: one record more, a part of a list, and the questions that a count answers.
-use Prim.Native.Nat.{ℕ, zero, suc, _+_, _<_, _≤_, _^_}
+use Prim.Native.Nat.{ℕ, _+_, _<_, _≤_, _^_}
 use mathlib.Core.Path.{_≡_, refl, sym, ap, _∙_}
 use mathlib.Core.Bool.{Bool, true, false, _||_}
+use mathlib.Core.Option.{Option, none, some}
 use mathlib.Core.List.{List, [], _∷_, _++_}
 use native.Mathlib.Nat.{zero-add, add-zero, add-assoc}
 use native.Mathlib.Omega.{arith}
 use lib.Dec.{ltb}
 use lib.ListN.{length, length-append}
-use borrow.Author.Tests.{lt-ltb, le-ltb}
+use borrow.Author.Tests.{lt-ltb}
 use Rattle.model.specs.Types.{ThreadState, ThreadRecord}
 use Rattle.model.specs.Accounting.{total, one, since}
 use Rattle.model.specs.Questions.{anyThread, isLive, isRunnable}
-use Rattle.records.specs.declared.totals.Totals.{Totals}
 use Rattle.records.specs.Totals.{flag, totalsOf, addTotals, TotalsFit}
 
 pub total-append : (f : ThreadRecord → ℕ) (a b : List ThreadRecord) → total f (a ++ b) ≡ total f a + total f b
@@ -54,6 +54,37 @@ totals-front a b g =
       turnaround = omega (arith, g .turnaround, total-append (λ t. since (t .times .arrival) (t .times .finish)) a b);
       live = omega (arith, g .live, total-append (λ t. flag (isLive (t .state))) a b);
       runnable = omega (arith, g .runnable, total-append (λ t. flag (isRunnable (t .state))) a b);
+    }
+
+-- a count of threads is at most their number
+total-few : (f : ThreadRecord → ℕ) → ((t : ThreadRecord) → f t ≤ 1) → (ts : List ThreadRecord) → total f ts ≤ length ts
+unfolding total
+total-few f h [] = omega arith
+total-few f h (t ∷ ts) = let l : total f ts ≤ length ts = total-few f h ts in omega (arith, h t)
+
+one-few : (x : Option ℕ) → one x ≤ 1
+one-few none = omega arith
+one-few (some n) = omega arith
+
+flag-few : (b : Bool) → flag b ≤ 1
+flag-few true = omega arith
+flag-few false = omega arith
+
+-- the sums fit where the number of threads and the four sums of ticks and preemptions do
+pub totals-fit : (ts : List ThreadRecord) → length ts < 2 ^ 64 → total (λ t. t .counts .preemptions) ts < 2 ^ 64 → total (λ t. t .counts .ready) ts < 2 ^ 64
+    → total (λ t. since (t .times .arrival) (t .times .firstRun)) ts < 2 ^ 64 → total (λ t. since (t .times .arrival) (t .times .finish)) ts < 2 ^ 64 → TotalsFit (totalsOf ts)
+unfolding totalsOf
+totals-fit ts n p w r f =
+    record {
+      threads = n;
+      finished = omega (arith, total-few (λ t. one (t .times .finish)) (λ t. one-few (t .times .finish)) ts);
+      responded = omega (arith, total-few (λ t. one (t .times .firstRun)) (λ t. one-few (t .times .firstRun)) ts);
+      preemptions = p;
+      waiting = w;
+      response = r;
+      turnaround = f;
+      live = omega (arith, total-few (λ t. flag (isLive (t .state))) (λ t. flag-few (isLive (t .state))) ts);
+      runnable = omega (arith, total-few (λ t. flag (isRunnable (t .state))) (λ t. flag-few (isRunnable (t .state))) ts);
     }
 
 any-count : (p : ThreadState → Bool) (ts : List ThreadRecord) → anyThread p ts ≡ ltb 0 (total (λ t. flag (p (t .state))) ts)

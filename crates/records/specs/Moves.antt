@@ -4,7 +4,7 @@ use mathlib.Core.List.{List, [], _∷_, map}
 use lib.ListN.{take}
 pub use Rattle.queue.specs.Words.{moveOf, decode}
 unfoldable pub use Rattle.queue.specs.Words.{movesIn}
-use Rattle.model.specs.Types.{LeaveReason, Exit, Block, Yield, Quantum, Preempt, Forced, Move, starts, leaves, takes, ThreadRecord}
+use Rattle.model.specs.Types.{Exit, Block, Yield, Quantum, Preempt, Forced, Move, starts, leaves, takes, ThreadRecord}
 use Rattle.model.specs.Phases.{update}
 use Rattle.model.specs.Accounting.{started, recordLeave, recordDispatch}
 

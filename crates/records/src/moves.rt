@@ -6,7 +6,7 @@ use model::LeaveReason;
 use model::ThreadInfo;
 use model::Tick;
 ghost use mathlib.Core.Path.{_≡_};
-ghost use Prim.Native.Nat.{ℕ, _+_, _<_, _^_, _/_, _%_};
+ghost use Prim.Native.Nat.{ℕ, _/_, _%_};
 ghost use Rattle.model.specs.Types.{ThreadRecord};
 ghost use Rattle.model.specs.Reading.{threadMeant};
 ghost use Rattle.records.specs.Changes.{changeMeant, Fits};

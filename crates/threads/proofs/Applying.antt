@@ -1,15 +1,14 @@
 -- What the first k moves make of the slice.
-use Prim.Native.Nat.{ℕ, zero, suc, _+_, _<_, _≤_, _^_}
+use Prim.Native.Nat.{ℕ, zero, suc, _+_, _<_, _≤_}
 use mathlib.Core.Path.{_≡_, refl, sym, ap, subst, _∙_}
-use mathlib.Core.List.{List, [], _∷_, _++_, map, map-append}
-use mathlib.Core.Logic.{_⊎_, inl, inr, ⊎-elim}
+use mathlib.Core.List.{List, [], _∷_, _++_, map-append}
 use native.Mathlib.Nat.{le-refl}
 use native.Mathlib.Numerals.{add-one}
 use native.Mathlib.Omega.{arith}
 use mathlib.Core.Bool.{Bool, true, false}
 use borrow.Author.Tests.{eqb-true, eqb-false}
 use lib.Dec.{eqb}
-use lib.ListN.{length, getD, set, take, drop, length-set}
+use lib.ListN.{length, getD, set, take, length-set}
 use lib.Seq.{take-suc, getD-set-same, getD-set-other}
 use Rattle.model.specs.declared.ThreadInfo.{ThreadInfo}
 use Rattle.model.specs.Types.{LeaveReason, Exit, Block, Yield, Quantum, Preempt, Forced, Move, starts, leaves, takes, ThreadRecord}
@@ -18,7 +17,7 @@ use Rattle.model.specs.Accounting.{addCounts, started, recordLeave, recordDispa
 use Rattle.model.specs.Reading.{threadMeant}
 use Rattle.records.specs.Moves.{decode, movesIn, moveTid, movedThread, movedThreads, MoveRoom}
 use Rattle.threads.specs.Slice.{blank, threadsIn, Front, tidAt, MovesFit}
-use Rattle.threads.proofs.Slices.{changedBy, is-changed, changed-meant, front-set}
+use Rattle.threads.proofs.Slices.{changedBy, is-changed, changed-meant, front-set, length-update}
 
 -- the record of move k's thread in the list ts, after the move
 unfoldable pub movedOnce : (now : ℕ) (moves : List ℕ) (k : ℕ) → List ThreadInfo → ThreadInfo
@@ -79,6 +78,11 @@ front-moved now moves ts n (suc k) h known few =
   where
     stepped : tidAt moves k < length (movedBy now moves k ts) → Front n (Phases.update (tidAt moves k) (movedThread now (decode (getD moves k 0))) (threadsIn (movedBy now moves k ts) n)) (movedBy now moves k ts) (set (movedBy now moves k ts) (tidAt moves k) (movedOnce now moves k (movedBy now moves k ts)))
     stepped there = subst (λ (z : ThreadInfo). Front n (Phases.update (tidAt moves k) (movedThread now (decode (getD moves k 0))) (threadsIn (movedBy now moves k ts) n)) (movedBy now moves k ts) (set (movedBy now moves k ts) (tidAt moves k) z)) (once now moves k (movedBy now moves k ts)) (front-set (movedThread now (decode (getD moves k 0))) (tidAt moves k) (movedBy now moves k ts) there n (few k (le-refl (suc k))))
+
+pub length-movedThreads : (now : ℕ) (ms : List Move) (ts : List ThreadRecord) → length (movedThreads now ms ts) ≡ length ts
+unfolding movedThreads
+length-movedThreads now [] ts = refl
+length-movedThreads now (m ∷ ms) ts = length-movedThreads now ms (Phases.update (moveTid m) (movedThread now m) ts) ∙ length-update (moveTid m) (movedThread now m) ts
 
 ---- the counters
 

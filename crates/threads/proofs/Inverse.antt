@@ -103,7 +103,7 @@ leave-back : (l : OptionLeave) → leaveOf (optionLeaveMeant l) ≡ l
 leave-back optionLeaves.None = refl
 leave-back (optionLeaves.Some l) = rw (reason-back (l .reason))
 
-thread-back : (t : ThreadInfo) → threadOf (threadMeant t) ≡ t
+pub thread-back : (t : ThreadInfo) → threadOf (threadMeant t) ≡ t
 unfolding threadOf
 thread-back t = rw (tid-back (t .parent), state-back (t .state), core-back (t .«last_core»), tick-back (t .«last_dispatch»), leave-back (t .«last_leave»), tick-back (t .stats .«first_run»), tick-back (t .stats .finish))
 

@@ -1,18 +1,14 @@
 -- What the walks that read the records have made after i turns.
-use Prim.Native.Nat.{ℕ, zero, suc, _+_, _-_, _<_, _≤_, _^_}
+use Prim.Native.Nat.{ℕ, zero, suc, _+_, _-_, _<_, _≤_}
 use native.Mathlib.Nat.{not-suc-le-zero, le-of-suc-le-suc}
-use native.Mathlib.Numerals.{add-one}
 use native.Mathlib.Omega.{arith}
-use mathlib.Core.Path.{_≡_, refl, sym, ap, subst, _∙_}
-use mathlib.Core.Option.{Option, none, some}
-use mathlib.Core.List.{List, [], _∷_, _++_, map, map-append}
-use lib.ListN.{length, getD, getElem?, set, take, drop}
-use lib.Seq.{take-suc, take-suc-set, take-add}
+use mathlib.Core.Path.{_≡_, refl, ap, subst, _∙_, sym}
+use mathlib.Core.List.{List, [], _∷_, _++_, map}
+use lib.ListN.{length, getD, getElem?, take, drop, take-append-drop}
 use Rattle.model.specs.declared.ThreadInfo.{ThreadInfo}
 use Rattle.model.specs.Types.{ThreadRecord}
 use Rattle.model.specs.Calls.{priorityOf}
 use Rattle.model.specs.Reading.{threadMeant}
-use Rattle.records.specs.declared.totals.Totals.{Totals}
 use Rattle.records.specs.Totals.{totalsOf, addTotals, TotalsFit}
 use Rattle.records.proofs.Summing.{totals-back, totals-front}
 use Rattle.walkkit.specs.Firsts.{firsts}
@@ -40,6 +36,10 @@ priorities-front (suc n) (t ∷ ts) (x ∷ out) h l = ap (λ (r : List ℕ). t .
 pub all-priorities : (n : ℕ) (ts : List ThreadInfo) (out : List ℕ) → n ≤ length ts → n ≤ length out → Filled n (prioritiesIn ts n) out (firsts (priorityAt ts) n out)
 unfolding prioritiesIn threadsIn
 all-priorities n ts out h l = record { front = priorities-front n ts out h l; rest = drop-firsts (priorityAt ts) n out }
+
+-- the words that `priorities` leaves, as one list
+pub is-filled : (n : ℕ) (words before after : List ℕ) → Filled n words before after → after ≡ words ++ drop n before
+is-filled n words before after f = sym (take-append-drop n after) ∙ rw (f .front, f .rest)
 
 -- a decision's view of the priorities: 0 for a thread that is not there
 pub priority-in : (n t : ℕ) (ts : List ThreadInfo) → getD (prioritiesIn ts n) t 0 ≡ priorityOf 0 (getElem? (threadsIn ts n) t)

@@ -1,13 +1,13 @@
 -- What the walks leave in the slice, read as the definition's list of threads.
-use Prim.Native.Nat.{ℕ, zero, suc, _+_, _<_, _≤_}
-use mathlib.Core.Path.{_≡_, refl, sym, ap, subst, _∙_}
+use Prim.Native.Nat.{ℕ, zero, suc, _+_, _<_, _≤_, _-_}
+use mathlib.Core.Path.{_≡_, refl, sym, ap, _∙_}
 use mathlib.Core.List.{List, [], _∷_, _++_, map, map-append}
 use native.Mathlib.Nat.{add-zero, zero-add, not-suc-le-zero, le-of-suc-le-suc}
 use native.Mathlib.Numerals.{add-one}
 use native.Mathlib.Omega.{arith}
 use mathlib.Core.Option.{some}
-use lib.ListN.{length, getD, getElem?, set, take, drop, length-take, length-map}
-use lib.Seq.{drop-set-lt, take-set-lt, getD-take, take-suc, take-suc-set, take-add, length-take-le}
+use lib.ListN.{length, getD, getElem?, set, take, drop, length-take, length-map, length-append, length-drop, take-append-drop}
+use lib.Seq.{drop-set-lt, take-set-lt, getD-take, take-suc, take-suc-set, take-add, length-take-le, take-at, drop-at}
 use Rattle.model.specs.declared.ThreadInfo.{ThreadInfo}
 use Rattle.model.specs.declared.CoreState.{CoreState}
 use Rattle.model.specs.Types.{Core, ThreadRecord}
@@ -18,7 +18,7 @@ use Rattle.records.specs.Charging.{coresMeant, chargeThread}
 use Rattle.walkkit.specs.Firsts.{firsts}
 use Rattle.walkkit.proofs.Firsts.{drop-firsts}
 use Rattle.threads.specs.Slice.{blank, threadsIn, Front}
-use Rattle.threads.proofs.Inverse.{threadOf, is-threadOf, thread-there}
+use Rattle.threads.proofs.Inverse.{threadOf, is-threadOf, thread-back, thread-there}
 
 ---- the list of threads, one more at a time
 
@@ -111,3 +111,57 @@ front-charged cores n ts =
       front = charge-firsts (coresMeant cores) (chargedAt cores) 0 n ts (λ j t. changed-meant (chargeThread (coresMeant cores) j) t ∙ ap (λ (k : ℕ). chargeThread (coresMeant cores) k (threadMeant t)) (sym (zero-add j)));
       rest = drop-firsts (chargedAt cores) n ts;
     }
+
+---- the slice that a contract leaves, as one list: what a caller that lends the slice again goes on with
+
+back-list : (l : List ThreadInfo) → map threadOf (map threadMeant l) ≡ l
+back-list [] = refl
+back-list (t ∷ l) = rw (thread-back t, back-list l)
+
+there-list : (l : List ThreadRecord) → map threadMeant (map threadOf l) ≡ l
+there-list [] = refl
+there-list (t ∷ l) = rw (thread-there t, there-list l)
+
+-- the records `wanted`, and behind them what stood there
+unfoldable pub listOf : (n : ℕ) (wanted : List ThreadRecord) → List ThreadInfo → List ThreadInfo
+listOf n wanted before = map threadOf wanted ++ drop n before
+
+pub is-list : (n : ℕ) (wanted : List ThreadRecord) (before after : List ThreadInfo) → Front n wanted before after → after ≡ listOf n wanted before
+unfolding listOf threadsIn
+is-list n wanted before after f = sym (take-append-drop n after) ∙ (ap (λ (l : List ThreadInfo). l ++ drop n after) (sym (back-list (take n after))) ∙ rw (f .front, f .rest))
+
+module _ (n : ℕ) (wanted : List ThreadRecord) (before : List ThreadInfo) (within : n ≤ length before) (count : length wanted ≡ n) where
+  front-count : length (map threadOf wanted) ≡ n
+  front-count = length-map wanted threadOf ∙ count
+
+  pub list-front : Front n wanted before (listOf n wanted before)
+  unfolding listOf threadsIn
+  list-front =
+      record {
+        front = ap (map threadMeant) (take-at (map threadOf wanted) (drop n before) n front-count) ∙ there-list wanted;
+        rest = drop-at (map threadOf wanted) (drop n before) n front-count;
+      }
+
+  pub length-list : length (listOf n wanted before) ≡ length before
+  unfolding listOf
+  length-list =
+      let a : length (map threadOf wanted ++ drop n before) ≡ length (map threadOf wanted) + length (drop n before) = length-append (map threadOf wanted) (drop n before) in
+      let b : length (drop n before) ≡ length before - n = length-drop n before in
+      let c : length (map threadOf wanted) ≡ n = front-count in
+      omega arith
+
+-- one call after another
+pub front-then : (n : ℕ) (one two : List ThreadRecord) (a b c : List ThreadInfo) → Front n one a b → Front n two b c → Front n two a c
+front-then n one two a b c f g = record { front = g .front; rest = g .rest ∙ f .rest }
+
+-- the definition's changes keep the number of threads
+pub length-update : (i : ℕ) (f : ThreadRecord → ThreadRecord) (ts : List ThreadRecord) → length (Phases.update i f ts) ≡ length ts
+unfolding Phases.update
+length-update i f [] = refl
+length-update zero f (t ∷ ts) = refl
+length-update (suc i) f (t ∷ ts) = ap suc (length-update i f ts)
+
+pub length-charged : (cs : List Core) (i : ℕ) (ts : List ThreadRecord) → length (chargeThreads cs i ts) ≡ length ts
+unfolding chargeThreads
+length-charged cs i [] = refl
+length-charged cs i (t ∷ ts) = ap suc (length-charged cs (suc i) ts)

@@ -1,14 +1,13 @@
 -- What the first i turns of waking make of the records and of the queue.
 use Prim.Native.Nat.{ℕ, zero, suc, _+_, _-_, _<_, _≤_}
-use mathlib.Core.Path.{_≡_, refl, sym, ap, subst, _∙_}
+use mathlib.Core.Path.{_≡_, refl, sym, ap, _∙_}
 use mathlib.Core.Bool.{Bool, true, false, cond}
-use mathlib.Core.List.{List, [], _∷_, _++_, map, map-append, append-assoc, append-nil}
-use lib.ListN.{length-map}
+use mathlib.Core.List.{List, [], _∷_, _++_, map, append-assoc, append-nil}
 use native.Mathlib.Nat.{add-zero, zero-add}
 use native.Mathlib.Numerals.{add-one}
 use native.Mathlib.Omega.{arith}
-use lib.ListN.{length, getD, set, take, drop, length-append, length-take, length-drop, length-set, take-append-drop}
-use lib.Seq.{take-suc, take-at, drop-at, take-add, length-take-le, drop-drop, append-snoc}
+use lib.ListN.{length, getD, take, drop, length-append, length-drop, take-append-drop}
+use lib.Seq.{take-at, drop-at, length-take-le, drop-drop, append-snoc}
 use Rattle.model.specs.declared.ThreadInfo.{ThreadInfo}
 use Rattle.model.specs.Types.{ThreadRecord, Ready, Accounts}
 use Rattle.model.specs.Phases
@@ -19,7 +18,7 @@ use Rattle.records.specs.Waking.{wokenBy, waiterAt, Pushed}
 use Rattle.walkkit.specs.Firsts.{firsts}
 use Rattle.walkkit.proofs.Firsts.{drop-firsts}
 use Rattle.threads.specs.Slice.{blank, threadsIn, Front, WakeFit, wokenThreads, Woken}
-use Rattle.threads.proofs.Slices.{changedBy, is-changed, changed-meant, threads-add, threads-back, length-threads}
+use Rattle.threads.proofs.Slices.{changedBy, is-changed, changed-meant, threads-add, threads-back, length-threads, length-update}
 
 ---- the records
 
@@ -28,6 +27,11 @@ pub wake-threads : (capE now : ℕ) (w : List ℕ) (b : Accounts) → wake capE 
 unfolding wake wokenThreads logged
 wake-threads e now [] b = refl
 wake-threads e now (t ∷ w) b = wake-threads e now w _
+
+pub length-wokenThreads : (w : List ℕ) (ts : List ThreadRecord) → length (wokenThreads w ts) ≡ length ts
+unfolding wokenThreads
+length-wokenThreads [] ts = refl
+length-wokenThreads (t ∷ w) ts = length-wokenThreads w (Phases.update t (setState Ready) ts) ∙ length-update t (setState Ready) ts
 
 update-at : (f : ThreadRecord → ThreadRecord) (front : List ThreadRecord) (h : ThreadRecord) (ts : List ThreadRecord) → Phases.update (length front) f (front ++ h ∷ ts) ≡ front ++ f h ∷ ts
 unfolding Phases.update
@@ -97,7 +101,7 @@ front-woken on n ts =
 unfoldable pub pushedBy : (words : List ℕ) (len : ℕ) → List ℕ → List ℕ
 pushedBy ws len q = (take len q ++ ws) ++ drop (len + length ws) q
 
-is-pushed : (ws : List ℕ) (len : ℕ) (q : List ℕ) (r : ℕ) (q′ : List ℕ) → Pushed ws len q r q′ → q′ ≡ pushedBy ws len q
+pub is-pushed : (ws : List ℕ) (len : ℕ) (q : List ℕ) (r : ℕ) (q′ : List ℕ) → Pushed ws len q r q′ → q′ ≡ pushedBy ws len q
 unfolding pushedBy
 is-pushed ws len q r q′ p = sym (take-append-drop r q′) ∙ rw (p .front, p .rest, p .count)
 
@@ -105,11 +109,11 @@ module _ (ws : List ℕ) (len : ℕ) (q : List ℕ) (room : len + length ws ≤ 
   front-long : length (take len q ++ ws) ≡ len + length ws
   front-long = length-append (take len q) ws ∙ ap (λ (k : ℕ). k + length ws) (length-take-le len q (omega arith))
 
-  pushed-is : Pushed ws len q (len + length ws) (pushedBy ws len q)
+  pub pushed-is : Pushed ws len q (len + length ws) (pushedBy ws len q)
   unfolding pushedBy
   pushed-is = record { count = refl; front = take-at (take len q ++ ws) (drop (len + length ws) q) (len + length ws) front-long; rest = drop-at (take len q ++ ws) (drop (len + length ws) q) (len + length ws) front-long }
 
-  length-pushed : length (pushedBy ws len q) ≡ length q
+  pub length-pushed : length (pushedBy ws len q) ≡ length q
   unfolding pushedBy
   length-pushed =
       let a : length ((take len q ++ ws) ++ drop (len + length ws) q) ≡ length (take len q ++ ws) + length (drop (len + length ws) q) = length-append (take len q ++ ws) (drop (len + length ws) q) in

@@ -1,5 +1,5 @@
 -- What the contracts over the lent slice of thread records cite.
-use Prim.Native.Nat.{ℕ, _+_, _<_, _≤_, _^_}
+use Prim.Native.Nat.{ℕ, _+_, _<_, _≤_}
 use mathlib.Core.Path.{_≡_}
 use mathlib.Core.List.{List, [], _∷_, map}
 use lib.ListN.{length, getD, take, drop}

@@ -12,9 +12,8 @@ use records::read;
 use records::totals;
 use records::totals::Totals;
 ghost use mathlib.Core.Path.{_≡_};
-ghost use mathlib.Core.List.{List, map, _++_};
 ghost use Prim.Native.Nat.{ℕ, _+_, _<_, _≤_};
-ghost use lib.ListN.{length, getD, set, take, drop};
+ghost use lib.ListN.{length, getD, set};
 ghost use Rattle.model.specs.Reading.{threadMeant};
 ghost use Rattle.model.specs.Accounting.{chargeThreads};
 ghost use Rattle.model.specs.Phases;
@@ -24,6 +23,7 @@ ghost use Rattle.records.specs.Totals.{totalsOf, TotalsFit};
 ghost use Rattle.records.specs.Changes.{changeMeant, Fits};
 ghost use Rattle.threads.specs.Slice.{blank, threadsIn, Front, AllChargeable, tidAt, MovesFit, WakeFit, Woken, prioritiesIn, Filled};
 
+// A copy of record i.
 pub fn record_at(threads: &[ThreadInfo], i: usize) -> ThreadInfo
     requires { ⌜ i < length (now threads) ⌝ }
     ensures { λ r. ⌜ r ≡ getD (now (threads .entry)) i blank ⌝ }
@@ -31,6 +31,7 @@ pub fn record_at(threads: &[ThreadInfo], i: usize) -> ThreadInfo
     threads[i]
 }
 
+// Record i becomes t: a new thread's record, behind those that are there.
 pub fn set_record(threads: &mut [ThreadInfo], i: usize, t: ThreadInfo)
     requires { ⌜ i < length (now threads) ⌝ }
     ensures { λ _. ⌜ now (threads .exit) ≡ set (now (threads .entry)) i t ⌝ }

@@ -1,7 +1,7 @@
 -- `threads::apply_moves` meets its contract: a walk of its MIR, by hand. Both slices are opened before the loop and closed after it. In each turn a word is copied, `move_tid` says whose record it is about, the record is copied, `applied` is called with the copy, and what it returned is stored.
 -- Of the two callees the proof knows only their contracts.
 use mathlib.Core.Path.{_≡_, refl, sym, ap, subst}
-use Prim.Native.Nat.{ℕ, _<_, _≤_, _^_, _*_, _+_}
+use Prim.Native.Nat.{ℕ, _<_, _^_, _*_, _+_}
 use native.Mathlib.Nat.{lt-of-lt-of-le}
 use native.Mathlib.Omega.{arith}
 use mathlib.Core.List.{[], _∷_, List}

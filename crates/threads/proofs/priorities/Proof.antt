@@ -20,7 +20,7 @@ use ghost.Atoms.{Atoms}
 use contract.Monad.{Fun}
 use contract.Running.{givenOf, tables, tablesOf}
 use types.Kit.{Given, Item, ‵, _⊛_, mean, ⋆, _$_, _∵_, !, qed, by, move, keep, drop, split, join, rewrite, fsplit, fjoin, feqI, suffices, frame, done}
-use types.Run.{look, look-raw, init, store, store-raw, forget, stop, hop, fld, from, load, lit, unit-lit, of-opd, bin, and-then, no-more, assigns, assigns-last, land, returns, enter, alloc1, alloc0, params1, pass1, pass0, free0}
+use types.Run.{look, look-raw, init, store, forget, stop, hop, fld, from, load, lit, unit-lit, of-opd, bin, and-then, no-more, assigns, assigns-last, land, returns, enter, alloc1, alloc0, params1, pass1, pass0, free0}
 use types.Part.{whole, sub, look-in}
 use sound.WpLaws.{FmC, fmOf, WpFn-mono}
 use denote.RattleType.{owns}

@@ -2,7 +2,7 @@
 -- Of the two callees the proof knows only their contracts.
 use mathlib.Core.Path.{_≡_, refl, sym, subst, _∙_}
 use Prim.Native.Nat.{ℕ, _<_, _≤_, _^_, _*_, _+_}
-use native.Mathlib.Nat.{lt-of-lt-of-le, le-of-lt, le-refl}
+use native.Mathlib.Nat.{lt-of-lt-of-le, le-of-lt}
 use native.Mathlib.Omega.{arith}
 use mathlib.Core.List.{[], _∷_, List}
 use lib.ListN.{length, getD}

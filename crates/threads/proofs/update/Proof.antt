@@ -43,7 +43,6 @@ use denote.Triple.Walked.{says, needs, Stays, stay-slice, stay-dropped, walkOf, 
 use denote.Exit.{yes}
 use Rattle.model.specs.declared.ThreadInfo.{ThreadInfo}
 use Rattle.records.specs.declared.change.Change.{Change}
-use Rattle.model.specs.Types.{ThreadRecord}
 use Rattle.model.specs.Reading.{threadMeant}
 use Rattle.records.specs.Changes.{changeMeant, Fits}
 use Rattle.threads.specs.Slice.{blank}

@@ -1,20 +1,10 @@
 use borrow.Author.Needs.{needs}
-use native.Mathlib.Omega.{arith}
 use mathlib.Core.Path.{subst}
 use Rattle.model.specs.Reading.{threadMeant}
 use Rattle.records.specs.declared.change.Change.{Change}
 use Rattle.records.specs.Changes.{changeMeant, Fits}
 use Rattle.records.proofs.change.changed.Statement.{statement}
 use Rattle.records.proofs.change.changed.Tie as tie
-use Rattle.records.proofs.change.changed.Reads as reads
-use Rattle.records.proofs.change.changed.Lts as lts
-use Rattle.records.proofs.change.departed.Reads as departed-reads
-use Rattle.records.proofs.change.dispatched.Reads as dispatched-reads
-use Rattle.records.proofs.change.exited.Reads as exited-reads
-use Rattle.records.proofs.change.prioritised.Reads as prioritised-reads
-use Rattle.records.proofs.change.ran_first.Reads as ran-first-reads
-use Rattle.records.proofs.change.with_state.Reads as with-state-reads
-use Rattle.records.proofs.change.yielded.Reads as yielded-reads
 
 enum-known-c : tie.Need-enum-known-c
 enum-known-c c = search needs

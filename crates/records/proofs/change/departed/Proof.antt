@@ -1,12 +1,7 @@
 use borrow.Author.Needs.{needs}
-use native.Mathlib.Omega.{arith}
 use Rattle.records.proofs.Steps.{leave-step}
 use Rattle.records.proofs.change.departed.Statement.{statement}
 use Rattle.records.proofs.change.departed.Tie as tie
-use Rattle.records.proofs.change.departed.Reads as reads
-use Rattle.records.proofs.change.departed.Lts as lts
-use Rattle.records.proofs.change.off_core.Reads as off-core-reads
-use Rattle.records.proofs.change.with_leave.Reads as with-leave-reads
 
 off-core-requires : tie.Need-off-core-requires
 off-core-requires c κs = search needs

@@ -1,13 +1,8 @@
 use borrow.Author.Needs.{needs}
-use native.Mathlib.Omega.{arith}
 use Rattle.model.specs.Reading.{threadMeant}
 use Rattle.records.proofs.Steps.{one-dispatches, dispatch-step}
 use Rattle.records.proofs.change.dispatched.Statement.{statement}
 use Rattle.records.proofs.change.dispatched.Tie as tie
-use Rattle.records.proofs.change.dispatched.Reads as reads
-use Rattle.records.proofs.change.dispatched.Lts as lts
-use Rattle.records.proofs.change.with_dispatch.Reads as with-dispatch-reads
-use Rattle.records.proofs.change.with_state.Reads as with-state-reads
 
 add-s : tie.Need-add-s
 add-s c = search needs

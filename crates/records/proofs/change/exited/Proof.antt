@@ -1,12 +1,7 @@
 use borrow.Author.Needs.{needs}
-use native.Mathlib.Omega.{arith}
 use Rattle.records.proofs.Steps.{exit-step}
 use Rattle.records.proofs.change.exited.Statement.{statement}
 use Rattle.records.proofs.change.exited.Tie as tie
-use Rattle.records.proofs.change.exited.Reads as reads
-use Rattle.records.proofs.change.exited.Lts as lts
-use Rattle.records.proofs.change.with_state.Reads as with-state-reads
-use Rattle.records.proofs.change.with_times.Reads as with-times-reads
 
 add-t7 : tie.Need-add-t7
 add-t7 c = search needs

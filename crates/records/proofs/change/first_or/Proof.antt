@@ -1,10 +1,7 @@
 use borrow.Author.Needs.{needs}
-use native.Mathlib.Omega.{arith}
 use Rattle.model.specs.Accounting.{orElse}
 use Rattle.records.proofs.change.first_or.Statement.{statement}
 use Rattle.records.proofs.change.first_or.Tie as tie
-use Rattle.records.proofs.change.first_or.Reads as reads
-use Rattle.records.proofs.change.first_or.Lts as lts
 
 enum-told : tie.Need-enum-told
 enum-told c = search needs

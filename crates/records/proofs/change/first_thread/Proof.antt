@@ -1,14 +1,7 @@
 use borrow.Author.Needs.{needs}
-use native.Mathlib.Omega.{arith}
-use Rattle.model.specs.Accounting.{born}
 use Rattle.records.proofs.Steps.{first-step, first-room}
 use Rattle.records.proofs.change.first_thread.Statement.{statement}
 use Rattle.records.proofs.change.first_thread.Tie as tie
-use Rattle.records.proofs.change.first_thread.Reads as reads
-use Rattle.records.proofs.change.first_thread.Lts as lts
-use Rattle.records.proofs.change.dispatched.Reads as dispatched-reads
-use Rattle.records.proofs.change.new_thread.Reads as new-thread-reads
-use Rattle.records.proofs.change.ran_first.Reads as ran-first-reads
 
 new-thread-requires : tie.Need-new-thread-requires
 new-thread-requires c κs = search needs

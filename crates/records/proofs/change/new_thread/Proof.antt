@@ -1,11 +1,7 @@
-use borrow.Author.Needs.{needs}
-use native.Mathlib.Omega.{arith}
 use mathlib.Core.Path.{refl}
 use Rattle.model.specs.Accounting.{born}
 use Rattle.records.proofs.change.new_thread.Statement.{statement}
 use Rattle.records.proofs.change.new_thread.Tie as tie
-use Rattle.records.proofs.change.new_thread.Reads as reads
-use Rattle.records.proofs.change.new_thread.Lts as lts
 
 returns : tie.Need-returns
 unfolding born

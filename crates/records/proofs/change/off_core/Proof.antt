@@ -1,12 +1,7 @@
 use borrow.Author.Needs.{needs}
-use native.Mathlib.Omega.{arith}
 use Rattle.model.specs.Accounting.{left}
 use Rattle.records.proofs.change.off_core.Statement.{statement}
 use Rattle.records.proofs.change.off_core.Tie as tie
-use Rattle.records.proofs.change.off_core.Reads as reads
-use Rattle.records.proofs.change.off_core.Lts as lts
-use Rattle.records.proofs.change.preempted.Reads as preempted-reads
-use Rattle.records.proofs.change.with_state.Reads as with-state-reads
 
 enum-told : tie.Need-enum-told
 enum-told c = search needs

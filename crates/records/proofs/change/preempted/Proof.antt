@@ -1,12 +1,8 @@
 use borrow.Author.Needs.{needs}
-use native.Mathlib.Omega.{arith}
 use Rattle.model.specs.Reading.{threadMeant}
 use Rattle.records.proofs.Steps.{one-preemptions, preempt-step}
 use Rattle.records.proofs.change.preempted.Statement.{statement}
 use Rattle.records.proofs.change.preempted.Tie as tie
-use Rattle.records.proofs.change.preempted.Reads as reads
-use Rattle.records.proofs.change.preempted.Lts as lts
-use Rattle.records.proofs.change.with_state.Reads as with-state-reads
 
 add-s : tie.Need-add-s
 add-s c = search needs

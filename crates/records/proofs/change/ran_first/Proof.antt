@@ -1,12 +1,7 @@
 use borrow.Author.Needs.{needs}
-use native.Mathlib.Omega.{arith}
 use Rattle.records.proofs.Steps.{start-step}
 use Rattle.records.proofs.change.ran_first.Statement.{statement}
 use Rattle.records.proofs.change.ran_first.Tie as tie
-use Rattle.records.proofs.change.ran_first.Reads as reads
-use Rattle.records.proofs.change.ran_first.Lts as lts
-use Rattle.records.proofs.change.first_or.Reads as first-or-reads
-use Rattle.records.proofs.change.with_times.Reads as with-times-reads
 
 first-or-requires : tie.Need-first-or-requires
 first-or-requires c κs = search needs

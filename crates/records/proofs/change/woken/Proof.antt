@@ -1,5 +1,4 @@
 use borrow.Author.Needs.{needs}
-use native.Mathlib.Omega.{arith}
 use mathlib.Core.Path.{ap, _∙_}
 use Rattle.model.specs.Types.{ThreadState}
 use Rattle.model.specs.Accounting.{setState}
@@ -7,10 +6,6 @@ use Rattle.model.specs.Reading.{threadMeant}
 use Rattle.records.specs.Waking.{wokenBy}
 use Rattle.records.proofs.change.woken.Statement.{statement}
 use Rattle.records.proofs.change.woken.Tie as tie
-use Rattle.records.proofs.change.woken.Reads as reads
-use Rattle.records.proofs.change.woken.Lts as lts
-use Rattle.records.proofs.change.with_state.Reads as with-state-reads
-use Rattle.records.proofs.change.woken_state.Reads as woken-state-reads
 
 woken-state-requires : tie.Need-woken-state-requires
 woken-state-requires c κs = search needs

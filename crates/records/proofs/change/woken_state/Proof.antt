@@ -1,10 +1,7 @@
 use borrow.Author.Needs.{needs}
-use native.Mathlib.Omega.{arith}
 use borrow.Author.Tests.{eq-eqb, ne-eqb}
 use Rattle.records.proofs.change.woken_state.Statement.{statement}
 use Rattle.records.proofs.change.woken_state.Tie as tie
-use Rattle.records.proofs.change.woken_state.Reads as reads
-use Rattle.records.proofs.change.woken_state.Lts as lts
 
 enum-told : tie.Need-enum-told
 enum-told c = search needs

@@ -1,11 +1,8 @@
 use borrow.Author.Needs.{needs}
-use native.Mathlib.Omega.{arith}
 use Rattle.model.specs.Reading.{threadMeant}
 use Rattle.records.proofs.Steps.{one-yields}
 use Rattle.records.proofs.change.yielded.Statement.{statement}
 use Rattle.records.proofs.change.yielded.Tie as tie
-use Rattle.records.proofs.change.yielded.Reads as reads
-use Rattle.records.proofs.change.yielded.Lts as lts
 
 add-s : tie.Need-add-s
 add-s c = search needs

@@ -4,12 +4,6 @@ use Rattle.model.specs.Reading.{threadMeant, threadStateMeant}
 use Rattle.records.proofs.Charging.{run-due, ready-due, blocked-due, charged-is}
 use Rattle.records.proofs.charge.charged.Statement.{statement}
 use Rattle.records.proofs.charge.charged.Tie as tie
-use Rattle.records.proofs.charge.charged.Reads as reads
-use Rattle.records.proofs.charge.charged.Lts as lts
-use Rattle.records.proofs.charge.blocked_due.Reads as blocked-due-reads
-use Rattle.records.proofs.charge.has_word.Reads as has-word-reads
-use Rattle.records.proofs.charge.ready_due.Reads as ready-due-reads
-use Rattle.records.proofs.charge.run_due.Reads as run-due-reads
 
 cast-tid : tie.Need-cast-tid
 cast-tid c = search needs

@@ -1,18 +1,12 @@
 use borrow.Author.Needs.{needs}
-use native.Mathlib.Omega.{arith}
 use Prim.Native.Nat.{_≤_, _-_}
 use mathlib.Core.Path.{_≡_, refl}
 use mathlib.Core.List.{map}
 use lib.ListN.{length, take, length-set}
-use lib.Seq.{take-all}
-use Rattle.records.specs.Charging.{runnerWord, holderWord, coreThreadsOf}
+use Rattle.records.specs.Charging.{runnerWord, holderWord}
 use Rattle.records.proofs.Charging.{filled, all-filled}
 use Rattle.records.proofs.charge.core_threads.Statement.{statement}
 use Rattle.records.proofs.charge.core_threads.Tie as tie
-use Rattle.records.proofs.charge.core_threads.Reads as reads
-use Rattle.records.proofs.charge.core_threads.Lts as lts
-use Rattle.records.proofs.charge.holder_word.Reads as holder-word-reads
-use Rattle.records.proofs.charge.runner_word.Reads as runner-word-reads
 
 abbrev Inv-loop : tie.InvT-loop
 Inv-loop cores running₀ held₀ k₀ running held k = (k ≤ 8) × (length running ≡ 8) × (length held ≡ 8) × (take k running ≡ map runnerWord (take k cores)) × (take k held ≡ map holderWord (take k cores))

@@ -1,16 +1,13 @@
 use borrow.Author.Needs.{needs}
-use native.Mathlib.Omega.{arith}
 use Prim.Native.Nat.{_≤_, _-_}
 use mathlib.Core.Path.{_≡_, refl, ap, _∙_}
 use mathlib.Core.Logic.{⊎-elim}
-use lib.ListN.{length, take}
+use lib.ListN.{take}
 use lib.Seq.{take-all}
 use Rattle.model.specs.Calls.{elem}
 use Rattle.records.proofs.Charging.{elem-hit, elem-miss}
 use Rattle.records.proofs.charge.has_word.Statement.{statement}
 use Rattle.records.proofs.charge.has_word.Tie as tie
-use Rattle.records.proofs.charge.has_word.Reads as reads
-use Rattle.records.proofs.charge.has_word.Lts as lts
 
 abbrev Inv-loop : tie.InvT-loop
 Inv-loop word words found₀ k₀ found k = (k ≤ 8) × (found ≡ elem word (take k words))

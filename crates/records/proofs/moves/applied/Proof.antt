@@ -1,14 +1,9 @@
 use borrow.Author.Needs.{needs}
-use native.Mathlib.Omega.{arith}
 use mathlib.Core.Path.{_∙_}
 use Prim.Native.Nat.{_%_, _/_}
 use Rattle.model.specs.Reading.{threadMeant}
 use Rattle.records.proofs.moves.applied.Statement.{statement}
 use Rattle.records.proofs.moves.applied.Tie as tie
-use Rattle.records.proofs.moves.applied.Reads as reads
-use Rattle.records.proofs.moves.applied.Lts as lts
-use Rattle.records.proofs.change.changed.Reads as changed-reads
-use Rattle.records.proofs.moves.change_of.Reads as change-of-reads
 
 cast-t7 : tie.Need-cast-t7
 cast-t7 c = search needs

@@ -1,13 +1,8 @@
-use borrow.Author.Needs.{needs}
-use native.Mathlib.Omega.{arith}
-use mathlib.Core.Path.{refl}
 use Rattle.records.specs.Changes.{changeMeant}
 use Rattle.records.specs.Moves.{movedThread}
 use Rattle.records.proofs.Moving.{is-start}
 use Rattle.records.proofs.moves.change_of.Statement.{statement}
 use Rattle.records.proofs.moves.change_of.Tie as tie
-use Rattle.records.proofs.moves.change_of.Reads as reads
-use Rattle.records.proofs.moves.change_of.Lts as lts
 
 returns : tie.Need-returns
 unfolding changeMeant movedThread

@@ -1,11 +1,7 @@
-use borrow.Author.Needs.{needs}
-use native.Mathlib.Omega.{arith}
 use Prim.Native.Nat.{_%_, _/_}
 use Rattle.records.proofs.Moving.{tid-of}
 use Rattle.records.proofs.moves.move_tid.Statement.{statement}
 use Rattle.records.proofs.moves.move_tid.Tie as tie
-use Rattle.records.proofs.moves.move_tid.Reads as reads
-use Rattle.records.proofs.moves.move_tid.Lts as lts
 
 returns : tie.Need-returns
 returns c = tid-of (c .args .word % 8) (c .args .word / 8 % 8) (c .args .word / 8 / 8 % 4294967296)

@@ -1,9 +1,6 @@
 use borrow.Author.Needs.{needs}
-use native.Mathlib.Omega.{arith}
 use Rattle.records.proofs.read.is_waiter.Statement.{statement}
 use Rattle.records.proofs.read.is_waiter.Tie as tie
-use Rattle.records.proofs.read.is_waiter.Reads as reads
-use Rattle.records.proofs.read.is_waiter.Lts as lts
 
 enum-told : tie.Need-enum-told
 enum-told c = search needs

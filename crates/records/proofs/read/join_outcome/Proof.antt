@@ -1,15 +1,9 @@
 use borrow.Author.Needs.{needs}
-use native.Mathlib.Omega.{arith}
-use mathlib.Core.Path.{_≡_, refl}
-use mathlib.Core.Option.{some}
-use borrow.Author.Tests.{eq-eqb, ne-eqb}
-use Rattle.model.specs.Types.{ThreadState, Ready, Exited, OnCore, Blocked}
+use borrow.Author.Tests.{ne-eqb}
 use Rattle.model.specs.Calls.{outcome}
 use Rattle.records.proofs.Steps.{of-self}
 use Rattle.records.proofs.read.join_outcome.Statement.{statement}
 use Rattle.records.proofs.read.join_outcome.Tie as tie
-use Rattle.records.proofs.read.join_outcome.Reads as reads
-use Rattle.records.proofs.read.join_outcome.Lts as lts
 
 returns : tie.Need-returns
 returns c = of-self _ _ _ (c .if1 .taken)

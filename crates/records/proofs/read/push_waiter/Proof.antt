@@ -1,12 +1,8 @@
 use borrow.Author.Needs.{needs}
-use native.Mathlib.Omega.{arith}
 use Rattle.model.specs.Reading.{threadMeant}
 use Rattle.records.proofs.Waking.{push-room, push-hit, push-miss}
 use Rattle.records.proofs.read.push_waiter.Statement.{statement}
 use Rattle.records.proofs.read.push_waiter.Tie as tie
-use Rattle.records.proofs.read.push_waiter.Reads as reads
-use Rattle.records.proofs.read.push_waiter.Lts as lts
-use Rattle.records.proofs.read.is_waiter.Reads as is-waiter-reads
 
 is-waiter-requires : tie.Need-is-waiter-requires
 is-waiter-requires c κs = search needs

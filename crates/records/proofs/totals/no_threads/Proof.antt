@@ -1,12 +1,8 @@
-use borrow.Author.Needs.{needs}
-use native.Mathlib.Omega.{arith}
 use mathlib.Core.Path.{refl}
 use Rattle.model.specs.Accounting.{total}
 use Rattle.records.specs.Totals.{totalsOf}
 use Rattle.records.proofs.totals.no_threads.Statement.{statement}
 use Rattle.records.proofs.totals.no_threads.Tie as tie
-use Rattle.records.proofs.totals.no_threads.Reads as reads
-use Rattle.records.proofs.totals.no_threads.Lts as lts
 
 returns : tie.Need-returns
 unfolding totalsOf total

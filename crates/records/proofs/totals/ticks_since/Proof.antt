@@ -2,8 +2,6 @@ use borrow.Author.Needs.{needs}
 use native.Mathlib.Omega.{arith}
 use Rattle.records.proofs.totals.ticks_since.Statement.{statement}
 use Rattle.records.proofs.totals.ticks_since.Tie as tie
-use Rattle.records.proofs.totals.ticks_since.Reads as reads
-use Rattle.records.proofs.totals.ticks_since.Lts as lts
 
 enum-told : tie.Need-enum-told
 enum-told c = search needs

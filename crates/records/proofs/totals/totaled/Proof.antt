@@ -1,15 +1,8 @@
 use borrow.Author.Needs.{needs}
 use native.Mathlib.Omega.{arith}
-use mathlib.Core.Path.{refl}
 use Rattle.records.specs.Totals.{addTotals}
 use Rattle.records.proofs.totals.totaled.Statement.{statement}
 use Rattle.records.proofs.totals.totaled.Tie as tie
-use Rattle.records.proofs.totals.totaled.Reads as reads
-use Rattle.records.proofs.totals.totaled.Lts as lts
-use Rattle.records.proofs.totals.one_if_live.Reads as one-if-live-reads
-use Rattle.records.proofs.totals.one_if_runnable.Reads as one-if-runnable-reads
-use Rattle.records.proofs.totals.one_if_set.Reads as one-if-set-reads
-use Rattle.records.proofs.totals.ticks_since.Reads as ticks-since-reads
 
 add-t8 : tie.Need-add-t8
 unfolding addTotals

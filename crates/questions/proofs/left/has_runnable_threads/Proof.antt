@@ -1,0 +1,16 @@
+use borrow.Author.Needs.{needs}
+use native.Mathlib.Omega.{arith}
+use mathlib.Core.Path.{sym, ap, _∙_}
+use lib.Dec.{ltb}
+use Rattle.records.specs.declared.totals.Totals.{Totals}
+use Rattle.records.proofs.Summing.{runnable-any}
+use Rattle.questions.proofs.left.has_runnable_threads.Statement.{statement}
+use Rattle.questions.proofs.left.has_runnable_threads.Tie as tie
+use Rattle.questions.proofs.left.has_runnable_threads.Reads as reads
+use Rattle.questions.proofs.left.has_runnable_threads.Lts as lts
+
+returns : tie.Need-returns
+returns c = λ rs e. ap (λ (x : Totals). ltb 0 (x .runnable)) e ∙ sym (runnable-any rs)
+
+pub has-runnable-threads-spec : {M : Type 1} → statement M
+has-runnable-threads-spec = tie.close (tie.spec returns)

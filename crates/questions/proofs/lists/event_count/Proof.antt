@@ -1,0 +1,16 @@
+use borrow.Author.Needs.{needs}
+use native.Mathlib.Omega.{arith}
+use mathlib.Core.Path.{sym}
+use Rattle.state.specs.State.{meant}
+use Rattle.rings.proofs.EventLaws.{events-count}
+use Rattle.questions.proofs.lists.event_count.Statement.{statement}
+use Rattle.questions.proofs.lists.event_count.Tie as tie
+use Rattle.questions.proofs.lists.event_count.Reads as reads
+use Rattle.questions.proofs.lists.event_count.Lts as lts
+
+returns : tie.Need-returns
+unfolding meant
+returns c = λ ts qs ps ls ws v. sym (events-count _ (c .before .args .s .log) (v .rings .events))
+
+pub event-count-spec : {M : Type 1} → statement M
+event-count-spec = tie.close (tie.spec returns)

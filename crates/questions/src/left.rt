@@ -1,0 +1,32 @@
+// What is left to run, from the sums over the thread records (`threads::totals`).
+use records::totals::Totals;
+ghost use mathlib.Core.Path.{_≡_};
+ghost use mathlib.Core.Bool.{not, _&&_};
+ghost use mathlib.Core.List.{List};
+ghost use Rattle.model.specs.Types.{ThreadRecord};
+ghost use Rattle.model.specs.Questions.{anyThread, isLive, isRunnable};
+ghost use Rattle.records.specs.Totals.{totalsOf};
+
+// Some thread has not exited.
+pub fn has_live_threads(t: Totals) -> bool
+    ensures { λ r. ⌜ ((rs : List ThreadRecord) → t ≡ totalsOf rs → r ≡ anyThread isLive rs) ⌝ }
+{
+    0 < t.live
+}
+
+// Some thread holds a core or waits for one.
+pub fn has_runnable_threads(t: Totals) -> bool
+    ensures { λ r. ⌜ ((rs : List ThreadRecord) → t ≡ totalsOf rs → r ≡ anyThread isRunnable rs) ⌝ }
+{
+    0 < t.runnable
+}
+
+// Threads are left, and none of them will ever run again.
+pub fn is_deadlocked(t: Totals) -> bool
+    ensures { λ r. ⌜ ((rs : List ThreadRecord) → t ≡ totalsOf rs → r ≡ (anyThread isLive rs && not (anyThread isRunnable rs))) ⌝ }
+{
+    if !has_live_threads(t) {
+        return false;
+    }
+    !has_runnable_threads(t)
+}
