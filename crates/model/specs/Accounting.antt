@@ -10,7 +10,7 @@ use Rattle.model.specs.Types.{ThreadState, Ready, Exited, OnCore, Blocke
 use Rattle.model.specs.Types.{EventKind, Spawned, Dispatched, Departed, Woken, Reprioritised, Event, Out, SwitchEntry, Accounts}
 use Rattle.model.specs.Phases.{update, holder}
 
--- the newest n of a list
+-- the newest n of a list. 01: "The Rust keeps 512 and 4,096; the port's list equals the newest E or S of the Rust's."
 unfoldable pub newest {ℓ} : {A : Type ℓ} → ℕ → List A → List A
 newest n l = drop (length l - n) l
 

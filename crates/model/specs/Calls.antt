@@ -105,6 +105,7 @@ unfoldable pub check : ℕ → Bool → Option ℕ → Option ℕ
 check n true r = some n
 check n false r = r
 
+-- 01: "`now` is at most 4,000,000,000."; "19+ yields of the thread at 4,000,000,000, or for force context switches ≥ 40,000,000,000"
 unfoldable pub limitNow : ℕ
 limitNow = 4_000_000_000
 
@@ -132,7 +133,9 @@ cannotTake s i (some t) r = check 15 (not (elem t (s .queue))) r
 unfoldable pub badTiming : (quantum cost : ℕ) → Bool
 badTiming q w = ltb 1_000_000 q || ltb 10_000 w
 
--- 01: "Checked in this order, and no others"
+-- 01: "Checked in this order, and no others: spawn 11, 17; tick 11, 18; exit 4, 11, 12, 13; join 4, 11, 12, 13; yield 4, 11, 12, 13, 19; retired 4, 11;
+-- priority 5, 11; force 4, 11, 12, 14, 15 (named) or 16 (unnamed), 19; close 4, 11, 12, 13, 18; `set_timing` 1, 11." "5 no such thread (priority call)."
+-- "11+ closed." "13 core idle, or switching for join and yield. 14 still switching." "17+ T threads exist. 18+ now at its limit."
 unfoldable pub refusal : State → Call → Option ℕ
 refusal s (spawn p e) = check 11 (s .closed) (check 17 (leb (s .config .capT) (length (s .accounts .threads))) none)
 refusal s tick = check 11 (s .closed) (check 18 (leb limitNow (s .now)) none)
@@ -186,7 +189,8 @@ unfoldable pub wake : (capE now : ℕ) → List ℕ → Accounts → Accounts
 wake e now [] b = b
 wake e now (t ∷ ts) b = wake e now ts (logged e now t Woken (onThread t (setState Ready) b))
 
--- 01: "`exit` sets finish to now + 1 and wakes its waiters in thread order to the back of the queue."
+-- 01: "`exit` sets finish to now + 1 and wakes its waiters in thread order to the back of the queue." A waiter keeps its core till the tick ends, "even if
+-- woken in that tick; it is then also in the queue": no core changes here but for the mark
 unfoldable pub exited : State → ℕ → State
 exited s i =
     let t = tidOn s i in
@@ -342,6 +346,7 @@ pub data Made : Type 0 where
   unmade : (number : ℕ) → Made
   made : State → Made
 
+-- 01: "`new` starts thread 0 running on core 0, priority 10." The Rust logs its spawn and its dispatch; n is the number of further cores, which are idle
 unfoldable pub initialState : (cores entry : ℕ) → Config → State
 initialState n entry k =
     record {

@@ -57,7 +57,7 @@ without t (h ∷ q) = cond (eqb h t) q (h ∷ without t q)
 
 ---- choices
 
--- the smallest number, earliest in the queue among equals
+-- 01: "A smaller priority number is more urgent." The smallest number, earliest in the queue among equals
 unfoldable pub moreUrgent : (ℕ → ℕ) → ℕ → Option ℕ → ℕ
 moreUrgent pr h none = h
 moreUrgent pr h (some b) = cond (ltb (pr b) (pr h)) b h
@@ -74,7 +74,7 @@ eligible pr (some n) (h ∷ q) = let r = eligible pr (some n) q in cond (leb (pr
 -- 01: "Next means the queue's front; under priority the smallest number, earliest in the queue among equals."
 -- The ceiling is the largest number that is eligible; only priority gives one. The core is there for R-12.
 unfoldable pub choose : Policy → (ℕ → ℕ) → Option ℕ → List ℕ → Option ℕ
-choose Off pr ceiling q = head? q
+choose Off pr ceiling q = head? q  -- 01: "Policy off schedules exactly as fifo."
 choose Fifo pr ceiling q = head? q
 choose RoundRobin pr ceiling q = head? q
 choose Priority pr ceiling q = mostUrgent pr (eligible pr ceiling q)

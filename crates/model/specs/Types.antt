@@ -23,17 +23,19 @@ pub record Core : Type 0 where
   pub yields : Bool
   pub progressed : Bool
 
--- what a tick end or a forced switch does, in order; the accounts and the switch list are read off these
+-- 01: "A thread gets a core at its dispatch." What a tick end or a forced switch does, in order; the accounts and the switch list are read off these
 pub data Move : Type 0 where
   starts : (tid : ℕ) → Move
   leaves : (tid core : ℕ) (reason : LeaveReason) → Move
   takes : (tid core : ℕ) → Move
 
+-- where a thread is in its life; `OnCore` is the Rust's `Running(core)`: it holds the core, running or being switched in
 pub data ThreadState : Type 0 where
   Ready Exited : ThreadState
   OnCore : (core : ℕ) → ThreadState
   Blocked : (on : ℕ) → ThreadState
 
+-- 01: "The tuple in `last_leave` becomes a record."
 pub record LastLeave : Type 0 where
   pub tick : ℕ
   pub core : ℕ
@@ -57,6 +59,7 @@ pub record Counts : Type 0 where
   pub preemptions : ℕ
   pub yields : ℕ
 
+-- 01: "The thread records are a lent slice of records, in thread order.": a thread's number is its place in the list
 pub record ThreadRecord : Type 0 where
   pub tid : ℕ
   pub parent : Option ℕ
@@ -104,6 +107,7 @@ pub record SwitchEntry : Type 0 where
   pub out : Option Out
   pub inn : Option ℕ
 
+-- 01: "1 to 256 thread records (capacity T); newest 1 to 512 events (E); newest 1 to 4,096 segments per core (S)"
 pub record Config : Type 0 where
   pub policy : Policy
   pub quantum : ℕ
