@@ -1,0 +1,579 @@
+// Appended to a copy of the original sched.rs, its test module cut off.
+//
+//   driver random LISTS CALLS SEED   writes a script of random call lists
+//   driver exhaust DEPTH             writes every call list of that length over a small alphabet, for each policy
+//   driver answer                    runs a script from standard input on the Rust and writes the whole state after every call
+//
+// A script has one call to a line: a code and its arguments, in decimal, an absent thread as `-`.
+//   0 POLICY QUANTUM COST CORES T E S ENTRY   new        6 TID NUMBER      set_priority
+//   1 PARENT ENTRY                            spawn      7 QUANTUM COST    set_timing
+//   2 CORE                                    exit       8 CORE TID        force_switch
+//   3 CORE TID                                join       9                 end_tick
+//   4 CORE                                    retired    10 CORE           close
+//   5 CORE                                    yield_now
+// The refusals that 01 adds are made here, before the Rust is asked; the Rust then keeps the newest E events and S segments of a core.
+use std::fmt::Write as _;
+use std::io::{BufRead, Write as _};
+
+struct Rng(u64);
+
+impl Rng {
+    fn new(seed: u64) -> Self {
+        let mut g = Rng(0x9E37_79B9_7F4A_7C15 ^ seed.wrapping_mul(0xD1B5_4A32_D192_ED03));
+        for _ in 0..20 {
+            g.below(2);
+        }
+        g
+    }
+
+    fn below(&mut self, n: u64) -> u64 {
+        self.0 ^= self.0 << 13;
+        self.0 ^= self.0 >> 7;
+        self.0 ^= self.0 << 17;
+        (self.0 >> 11) % n
+    }
+
+    fn one_in(&mut self, n: u64) -> bool {
+        self.below(n) == 0
+    }
+}
+
+fn or_dash<T: std::fmt::Display>(o: Option<T>) -> String {
+    o.map_or("-".to_string(), |x| x.to_string())
+}
+
+// ---- the Rust behind 01's refusals
+
+struct Guarded {
+    sched: Scheduler<()>,
+    cap_threads: usize,
+    cap_events: usize,
+    cap_segments: usize,
+    closed: bool,
+}
+
+const LIMIT_NOW: u64 = 4_000_000_000;
+const LIMIT_SWITCHES: u64 = 40_000_000_000;
+
+fn policy_of(n: u64) -> SchedPolicy {
+    SchedPolicy::ALL[(n % 4) as usize]
+}
+
+impl Guarded {
+    fn new(a: &[u64]) -> Result<Self, u32> {
+        let [policy, quantum, cost, cores, t, e, s, entry] = a[..8] else {
+            unreachable!()
+        };
+        if !(1..=1_000_000).contains(&quantum) || cost > 10_000 {
+            return Err(1);
+        }
+        if cores > 8 {
+            return Err(2);
+        }
+        if !(1..=256).contains(&t) || !(1..=512).contains(&e) || !(1..=4096).contains(&s) {
+            return Err(3);
+        }
+        let cfg = SchedConfig {
+            policy: policy_of(policy),
+            quantum: quantum as u32,
+            switch_cost: cost as u32,
+        };
+        Ok(Guarded {
+            sched: Scheduler::new(cfg, cores as usize, entry as u32),
+            cap_threads: t as usize,
+            cap_events: e as usize,
+            cap_segments: s as usize,
+            closed: false,
+        })
+    }
+
+    fn leaving(&self, core: usize) -> bool {
+        self.sched.flags[core].exit || self.sched.flags[core].block
+    }
+
+    // 4, 11, 12 and 13, as exit, join, yield and close check them
+    fn of_core(&self, core: u64, running: bool) -> Result<usize, u32> {
+        let core = self.exists(core)?;
+        if self.leaving(core) {
+            return Err(12);
+        }
+        match self.sched.cores[core] {
+            CoreState::Running { .. } => Ok(core),
+            CoreState::Switching { .. } if !running => Ok(core),
+            _ => Err(13),
+        }
+    }
+
+    fn exists(&self, core: u64) -> Result<usize, u32> {
+        if core >= self.sched.cores.len() as u64 {
+            return Err(4);
+        }
+        self.open()?;
+        Ok(core as usize)
+    }
+
+    fn open(&self) -> Result<(), u32> {
+        if self.closed {
+            Err(11)
+        } else {
+            Ok(())
+        }
+    }
+
+    fn call(&mut self, code: u64, a: &[Option<u64>]) -> Result<String, u32> {
+        let n = |i: usize| a[i].unwrap();
+        let tid = |i: usize| a[i].map(|x| x as u32);
+        match code {
+            1 => {
+                self.open()?;
+                if self.sched.threads.len() >= self.cap_threads {
+                    return Err(17);
+                }
+                Ok(format!(
+                    "spawned {}",
+                    self.sched.spawn(tid(0), n(1) as u32, ())
+                ))
+            }
+            2 => {
+                let core = self.of_core(n(0), false)?;
+                self.sched.exit(core);
+                Ok("ok".into())
+            }
+            3 => {
+                let core = self.of_core(n(0), true)?;
+                Ok(match self.sched.join(core, n(1) as u32) {
+                    JoinOutcome::Wait => "joined wait".into(),
+                    JoinOutcome::Done => "joined done".into(),
+                    JoinOutcome::Invalid => "joined invalid".into(),
+                })
+            }
+            4 => {
+                let core = self.exists(n(0))?;
+                self.sched.retired(core);
+                Ok("ok".into())
+            }
+            5 => {
+                let core = self.of_core(n(0), true)?;
+                let t = self.sched.running_on(core).unwrap();
+                if self.sched.threads[t as usize].stats.yields >= LIMIT_NOW {
+                    return Err(19);
+                }
+                self.sched.yield_now(core);
+                Ok("ok".into())
+            }
+            6 => {
+                if n(0) >= self.sched.threads.len() as u64 {
+                    return Err(5);
+                }
+                self.open()?;
+                self.sched.set_priority(n(0) as u32, n(1) as u32);
+                Ok("ok".into())
+            }
+            7 => {
+                if n(0) > 1_000_000 || n(1) > 10_000 {
+                    return Err(1);
+                }
+                self.open()?;
+                self.sched.set_timing(n(0) as u32, n(1) as u32);
+                Ok("ok".into())
+            }
+            8 => self.force(n(0), tid(1)),
+            9 => {
+                self.open()?;
+                if self.sched.now >= LIMIT_NOW {
+                    return Err(18);
+                }
+                let list = self.sched.end_tick();
+                Ok(switched(&list))
+            }
+            _ => {
+                let core = self.of_core(n(0), false)?;
+                if self.sched.now >= LIMIT_NOW {
+                    return Err(18);
+                }
+                self.sched.close(core);
+                self.closed = true;
+                Ok("ok".into())
+            }
+        }
+    }
+
+    fn force(&mut self, core: u64, named: Option<u32>) -> Result<String, u32> {
+        let core = self.exists(core)?;
+        if (0..self.sched.cores.len()).any(|c| self.leaving(c)) {
+            return Err(12);
+        }
+        if matches!(self.sched.cores[core], CoreState::Switching { .. }) {
+            return Err(14);
+        }
+        match named {
+            Some(t) if !self.sched.ready.contains(&t) => return Err(15),
+            None if self.sched.ready.is_empty() => return Err(16),
+            _ => {}
+        }
+        if self.sched.context_switches >= LIMIT_SWITCHES {
+            return Err(19);
+        }
+        let list = self.sched.force_switch(core, named).unwrap();
+        Ok(switched(&list))
+    }
+}
+
+fn switched(list: &[Switch]) -> String {
+    let mut s = String::from("switched");
+    for e in list {
+        let out = e
+            .out
+            .map_or("-,-".to_string(), |(t, r)| format!("{},{}", t, r.label()));
+        write!(s, " {},{},{}", e.core, out, or_dash(e.inn)).unwrap();
+    }
+    s
+}
+
+// ---- the whole state
+
+fn bit(b: bool) -> u8 {
+    b as u8
+}
+
+fn write_state(g: &Guarded, o: &mut String) {
+    let s = &g.sched;
+    let c = s.cfg;
+    writeln!(
+        o,
+        "state {} {} {} {} {} {}",
+        s.now,
+        bit(g.closed),
+        s.context_switches,
+        c.policy.as_str(),
+        c.quantum,
+        c.switch_cost
+    )
+    .unwrap();
+    write!(o, "queue").unwrap();
+    for t in &s.ready {
+        write!(o, " {}", t).unwrap();
+    }
+    o.push('\n');
+    for (i, core) in s.cores.iter().enumerate() {
+        match core {
+            CoreState::Idle => write!(o, "core {} idle", i),
+            CoreState::Switching { tid, left } => {
+                write!(o, "core {} switching {} {}", i, tid, left)
+            }
+            CoreState::Running { tid, slice } => write!(o, "core {} running {} {}", i, tid, slice),
+        }
+        .unwrap();
+        let (f, k) = (s.flags[i], s.core_ticks[i]);
+        writeln!(
+            o,
+            " marks {}{}{}{} ticks {} {} {}",
+            bit(f.exit),
+            bit(f.block),
+            bit(f.yielded),
+            bit(s.progressed[i]),
+            k.busy,
+            k.switching,
+            k.idle
+        )
+        .unwrap();
+    }
+    for t in &s.threads {
+        write_thread(t, o);
+    }
+    for e in s
+        .events
+        .iter()
+        .skip(s.events.len().saturating_sub(g.cap_events))
+    {
+        write!(o, "event {} {} ", e.tick, e.tid).unwrap();
+        match e.kind {
+            SchedEventKind::Spawn { parent } => writeln!(o, "spawn {}", or_dash(parent)),
+            SchedEventKind::Dispatch { core } => writeln!(o, "dispatch {}", core),
+            SchedEventKind::Leave { core, reason } => {
+                writeln!(o, "leave {} {}", core, reason.label())
+            }
+            SchedEventKind::Wake => writeln!(o, "wake"),
+            SchedEventKind::Priority { priority } => writeln!(o, "priority {}", priority),
+        }
+        .unwrap();
+    }
+    for (i, line) in s.timeline.iter().enumerate() {
+        for g in line.iter().skip(line.len().saturating_sub(g.cap_segments)) {
+            match g.lane {
+                Lane::Idle => write!(o, "segment {} idle", i),
+                Lane::Switch(t) => write!(o, "segment {} switch {}", i, t),
+                Lane::Run(t) => write!(o, "segment {} run {}", i, t),
+            }
+            .unwrap();
+            writeln!(o, " {} {}", g.start, g.end).unwrap();
+        }
+    }
+    write_questions(s, o);
+}
+
+fn write_thread(t: &ThreadInfo, o: &mut String) {
+    let x = t.stats;
+    write!(
+        o,
+        "thread {} {} {} {} ",
+        t.tid,
+        or_dash(t.parent),
+        t.entry_pc,
+        t.priority
+    )
+    .unwrap();
+    match t.state {
+        ThreadState::Ready => write!(o, "ready"),
+        ThreadState::Running(c) => write!(o, "running {}", c),
+        ThreadState::Blocked(u) => write!(o, "blocked {}", u),
+        ThreadState::Exited => write!(o, "exited"),
+    }
+    .unwrap();
+    write!(
+        o,
+        " last {} {}",
+        or_dash(t.last_core),
+        or_dash(t.last_dispatch)
+    )
+    .unwrap();
+    match t.last_leave {
+        None => write!(o, " -"),
+        Some((n, c, r)) => write!(o, " {} {} {}", n, c, r.label()),
+    }
+    .unwrap();
+    writeln!(
+        o,
+        " times {} {} {} counts {} {} {} {} {} {}",
+        x.arrival,
+        or_dash(x.first_run),
+        or_dash(x.finish),
+        x.run_ticks,
+        x.ready_ticks,
+        x.blocked_ticks,
+        x.dispatches,
+        x.preemptions,
+        x.yields
+    )
+    .unwrap();
+}
+
+// the questions that are no field: for each core and one more, for each thread and one more
+fn write_questions(s: &Scheduler<()>, o: &mut String) {
+    write!(
+        o,
+        "asked {} {} {} {}",
+        s.next_tid(),
+        bit(s.has_live_threads()),
+        bit(s.has_runnable_threads()),
+        bit(s.is_deadlocked())
+    )
+    .unwrap();
+    for c in 0..=s.cores.len() {
+        write!(
+            o,
+            " {} {}",
+            or_dash(s.running_on(c)),
+            or_dash(s.thread_on(c))
+        )
+        .unwrap();
+    }
+    for t in 0..=s.threads.len() as u32 {
+        write!(o, " {}", or_dash(s.core_of(t))).unwrap();
+    }
+    for t in &s.threads {
+        write!(
+            o,
+            " {} {}",
+            or_dash(t.stats.response()),
+            or_dash(t.stats.turnaround())
+        )
+        .unwrap();
+    }
+    o.push('\n');
+}
+
+fn answer() {
+    let input = std::io::stdin().lock();
+    let mut output = std::io::BufWriter::with_capacity(1 << 16, std::io::stdout().lock());
+    let mut at: Option<Guarded> = None;
+    let mut text = String::new();
+    for line in input.lines() {
+        let line = line.unwrap();
+        let mut words = line.split(' ');
+        let code: u64 = words.next().unwrap().parse().unwrap();
+        let args: Vec<Option<u64>> = words.map(|w| w.parse().ok()).collect();
+        text.clear();
+        if code == 0 {
+            let plain: Vec<u64> = args.iter().map(|a| a.unwrap()).collect();
+            match Guarded::new(&plain) {
+                Ok(g) => {
+                    at = Some(g);
+                    text.push_str("ok\n");
+                }
+                Err(k) => {
+                    at = None;
+                    writeln!(text, "refused {}", k).unwrap();
+                }
+            }
+        } else if let Some(g) = &mut at {
+            match g.call(code, &args) {
+                Ok(said) => writeln!(text, "{}", said).unwrap(),
+                Err(k) => writeln!(text, "refused {}", k).unwrap(),
+            }
+        }
+        if let Some(g) = &at {
+            write_state(g, &mut text);
+        }
+        output.write_all(text.as_bytes()).unwrap();
+    }
+}
+
+// ---- scripts
+
+fn random_new(g: &mut Rng, o: &mut String) -> (u64, u64) {
+    let policy = [0, 2, 3, 2, 3, 1][g.below(6) as usize];
+    let quantum = match g.below(12) {
+        0 => 0,
+        1 => 1_000_001,
+        2 => 1_000_000,
+        _ => 1 + g.below(4),
+    };
+    let cost = match g.below(16) {
+        0 => 10_001,
+        1 => 10_000,
+        _ => g.below(3),
+    };
+    let cores = if g.one_in(20) { 9 } else { g.below(9) };
+    let small = !g.one_in(8);
+    let t = if g.one_in(25) {
+        [0, 257][g.below(2) as usize]
+    } else if small {
+        1 + g.below(9)
+    } else {
+        1 + g.below(256)
+    };
+    let e = if g.one_in(25) {
+        [0, 513][g.below(2) as usize]
+    } else if small {
+        1 + g.below(12)
+    } else {
+        1 + g.below(512)
+    };
+    let s = if g.one_in(25) {
+        [0, 4097][g.below(2) as usize]
+    } else if small {
+        1 + g.below(4)
+    } else {
+        1 + g.below(4096)
+    };
+    writeln!(
+        o,
+        "0 {} {} {} {} {} {} {} {}",
+        policy,
+        quantum,
+        cost,
+        cores,
+        t,
+        e,
+        s,
+        g.below(5)
+    )
+    .unwrap();
+    (cores.clamp(1, 8), t.clamp(1, 256))
+}
+
+fn random_call(g: &mut Rng, cores: u64, threads: u64, o: &mut String) {
+    let core = if g.one_in(14) {
+        cores + g.below(2)
+    } else {
+        g.below(cores)
+    };
+    let tid = g.below(threads + 1);
+    let odd = g.one_in(200);
+    let core = if odd { 4_294_967_295 } else { core };
+    let some = |g: &mut Rng, n: u64| {
+        if g.one_in(3) {
+            "-".to_string()
+        } else {
+            n.to_string()
+        }
+    };
+    match g.below(100) {
+        0..=13 => {
+            let p = some(g, tid);
+            writeln!(o, "1 {} {}", p, g.below(50))
+        }
+        14..=19 => writeln!(o, "2 {}", core),
+        20..=27 => writeln!(o, "3 {} {}", core, tid),
+        28..=47 => writeln!(o, "4 {}", core),
+        48..=52 => writeln!(o, "5 {}", core),
+        53..=58 => writeln!(o, "6 {} {}", tid, g.below(14)),
+        59..=60 => writeln!(
+            o,
+            "7 {} {}",
+            if g.one_in(5) { 1_000_001 } else { g.below(4) },
+            if g.one_in(9) { 10_001 } else { g.below(3) }
+        ),
+        61..=67 => {
+            let t = some(g, tid);
+            writeln!(o, "8 {} {}", core, t)
+        }
+        68..=98 => writeln!(o, "9"),
+        _ => writeln!(o, "10 {}", core),
+    }
+    .unwrap();
+}
+
+fn random(lists: u64, calls: u64, seed: u64) {
+    let mut output = std::io::BufWriter::new(std::io::stdout().lock());
+    let mut g = Rng::new(seed);
+    let mut text = String::new();
+    for _ in 0..lists {
+        text.clear();
+        let (cores, threads) = random_new(&mut g, &mut text);
+        let threads = threads.min(12);
+        for _ in 0..g.below(2 * calls) {
+            random_call(&mut g, cores, threads, &mut text);
+        }
+        output.write_all(text.as_bytes()).unwrap();
+    }
+}
+
+fn exhaust(depth: u32) {
+    let calls = [
+        "1 0 0", "2 0", "2 1", "3 0 1", "3 1 0", "4 0", "4 1", "5 0", "6 1 9", "8 0 -", "8 0 1",
+        "9",
+    ];
+    let mut output = std::io::BufWriter::new(std::io::stdout().lock());
+    for start in [
+        "0 1 1 0 1 3 4 2 0",
+        "0 2 1 0 2 3 4 2 0",
+        "0 2 2 1 1 3 4 2 0",
+        "0 3 1 0 1 3 4 2 0",
+        "0 3 1 1 2 3 4 2 0",
+    ] {
+        for mut k in 0..(calls.len() as u64).pow(depth) {
+            writeln!(output, "{}", start).unwrap();
+            for _ in 0..depth {
+                writeln!(output, "{}", calls[(k % calls.len() as u64) as usize]).unwrap();
+                k /= calls.len() as u64;
+            }
+        }
+    }
+}
+
+fn main() {
+    let a: Vec<String> = std::env::args().collect();
+    let n = |i: usize| {
+        a.get(i)
+            .and_then(|x| x.parse().ok())
+            .unwrap_or_else(|| panic!("argument {} is a number", i))
+    };
+    match a.get(1).map(String::as_str) {
+        Some("random") => random(n(2), n(3), n(4)),
+        Some("exhaust") => exhaust(n(2) as u32),
+        Some("answer") => answer(),
+        _ => panic!("random LISTS CALLS SEED, exhaust DEPTH or answer"),
+    }
+}
