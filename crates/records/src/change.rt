@@ -12,8 +12,9 @@ use model::ThreadStats;
 use model::Tick;
 use model::Tid;
 ghost use mathlib.Core.Path.{_≡_};
-ghost use Prim.Native.Nat.{_+_, _<_, _^_};
-ghost use Rattle.model.specs.Reading.{threadMeant, threadStateMeant, reasonMeant, optionTidMeant, optionTickMeant, optionCoreMeant, optionLeaveMeant};
+ghost use mathlib.Core.Option.{none, some};
+ghost use Prim.Native.Nat.{ℕ, _+_, _<_, _^_};
+ghost use Rattle.model.specs.Reading.{threadMeant, threadStateMeant, reasonMeant, optionTidMeant, optionTickMeant, optionCoreMeant, optionLeaveMeant, timesMeant, countsMeant};
 ghost use Rattle.model.specs.Types.{Ready, Exited};
 ghost use Rattle.model.specs.Accounting.{addCounts, setState, setPriority, setLast, setTimes, finished, started, recordLeave, recordDispatch, left, born, orElse};
 ghost use Rattle.records.specs.Waking.{wokenState, wokenBy};
@@ -40,6 +41,14 @@ pub enum Change {
     Dispatch {
         now: Tick,
         core: CoreId,
+    },
+    // A new thread takes the place, whatever stood there.
+    Born {
+        tid: Tid,
+        parent: OptionTid,
+        entry_pc: u32,
+        priority: u32,
+        now: Tick,
     },
     Keep,
 }
@@ -248,6 +257,13 @@ pub fn changed(t: ThreadInfo, c: Change) -> ThreadInfo
         Change::Start { now } => ran_first(t, now),
         Change::Leave { now, core, reason } => departed(t, now, core, reason),
         Change::Dispatch { now, core } => dispatched(t, now, core),
+        Change::Born {
+            tid,
+            parent,
+            entry_pc,
+            priority,
+            now,
+        } => new_thread(tid, parent, entry_pc, priority, now),
         Change::Keep => t,
     }
 }

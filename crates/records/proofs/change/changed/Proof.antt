@@ -1,10 +1,21 @@
 use borrow.Author.Needs.{needs}
+use native.Mathlib.Omega.{arith}
 use mathlib.Core.Path.{subst}
 use Rattle.model.specs.Reading.{threadMeant}
 use Rattle.records.specs.declared.change.Change.{Change}
 use Rattle.records.specs.Changes.{changeMeant, Fits}
 use Rattle.records.proofs.change.changed.Statement.{statement}
 use Rattle.records.proofs.change.changed.Tie as tie
+use Rattle.records.proofs.change.changed.Reads as reads
+use Rattle.records.proofs.change.changed.Lts as lts
+use Rattle.records.proofs.change.departed.Reads as departed-reads
+use Rattle.records.proofs.change.dispatched.Reads as dispatched-reads
+use Rattle.records.proofs.change.exited.Reads as exited-reads
+use Rattle.records.proofs.change.new_thread.Reads as new-thread-reads
+use Rattle.records.proofs.change.prioritised.Reads as prioritised-reads
+use Rattle.records.proofs.change.ran_first.Reads as ran-first-reads
+use Rattle.records.proofs.change.with_state.Reads as with-state-reads
+use Rattle.records.proofs.change.yielded.Reads as yielded-reads
 
 enum-known-c : tie.Need-enum-known-c
 enum-known-c c = search needs
@@ -54,6 +65,12 @@ enum-known-c-6 c = search needs
 dispatched-requires : tie.Need-dispatched-requires
 dispatched-requires c κs = subst (λ (k : Change). Fits k (threadMeant (c .before .before .before .args .t))) (c .before .c6 .given .1) (c .before .before .before .pre)
 
+enum-known-c-7 : tie.Need-enum-known-c-7
+enum-known-c-7 c = search needs
+
+new-thread-requires : tie.Need-new-thread-requires
+new-thread-requires c κs = search needs
+
 enum-told-3 : tie.Need-enum-told-3
 enum-told-3 c = search needs
 
@@ -91,7 +108,11 @@ returns-8 c = rw (c .before .before .c6 .given .1) (c .dispatched .ensures)
 
 returns-9 : tie.Need-returns-9
 unfolding changeMeant
-returns-9 c = rw (c .enum-told3 .given .1)
+returns-9 c = rw (c .before .before .c7 .given .1) (c .new-thread .ensures)
+
+returns-10 : tie.Need-returns-10
+unfolding changeMeant
+returns-10 c = rw (c .enum-told3 .given .1)
 
 pub changed-spec : {M : Type 1} → statement M
 changed-spec =
@@ -113,6 +134,8 @@ changed-spec =
     departed-requires
     enum-known-c-6
     dispatched-requires
+    enum-known-c-7
+    new-thread-requires
     enum-told-3
     returns
     returns-2
@@ -122,4 +145,5 @@ changed-spec =
     returns-6
     returns-7
     returns-8
-    returns-9)
+    returns-9
+    returns-10)
