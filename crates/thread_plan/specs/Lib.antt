@@ -1,0 +1,3 @@
+pub mod Change
+pub mod Logging
+pub mod Reads
