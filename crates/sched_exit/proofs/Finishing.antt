@@ -40,7 +40,7 @@ use Rattle.state.proofs.Sched.Laws as S′
 use Rattle.sched_marks.proofs.Answered as R
 use Rattle.exit_plan.proofs.exit_finished as finish
 use Rattle.exit_plan.proofs.exit_finished.Symbol.{name as #exit-finished}
-use Rattle.sched_exit.proofs.Returned.{Returns}
+use Rattle.callkit.proofs.Returned.{Returns}
 use Rattle.sched_exit.proofs.Parts.{smach, jmach}
 
 module _ {M : Type 1} (𝓤 : URA M) (H : Heap 𝓤) (A : Atoms 𝓤) (mem : Memory → SProp 𝓤) (run : Routine → Fun 𝓤) where

@@ -1,25 +1,25 @@
 -- `join`, taken.
-use Prim.Native.Nat.{ℕ, zero, suc, _+_, _<_, _≤_}
+use Prim.Native.Nat.{ℕ, _<_}
 use mathlib.Core.Path.{_≡_, refl, sym, ap, ap₂, _∙_, subst}
 use mathlib.Core.Bool.{Bool, true, false, cond}
 use mathlib.Core.Option.{Option, none, some}
-use mathlib.Core.List.{List, [], _∷_, _++_, map}
+use mathlib.Core.List.{List, map}
 use native.Mathlib.Omega.{arith}
 use lib.Dec.{leb}
-use lib.ListN.{length, take, drop, getD, getElem?, set}
+use lib.ListN.{length, take, getD, getElem?, set}
 use borrow.Author.Tests.{leb-true, leb-false}
 use Rattle.model.specs.declared.Tid.{Tid}
 use Rattle.model.specs.declared.ThreadInfo.{ThreadInfo}
 use Rattle.model.specs.declared.JoinOutcome as JoinOutcomes
 use Rattle.model.specs.declared.JoinOutcome.the-variants as JoinCases
-use Rattle.model.specs.Types.{Core, ThreadState, Blocked, ThreadRecord, State}
+use Rattle.model.specs.Types.{Core, Blocked, ThreadRecord, State}
 use Rattle.model.specs.Phases.{update}
 use Rattle.model.specs.Reading.{joinMeant, joinAnswerMeant, threadMeant}
 use Rattle.model.specs.Accounting.{setState}
 use Rattle.model.specs.Calls.{Call, Answer, joined, refused, JoinOutcome, Wait, Invalid, outcome, blocking, accept, refusal, join, tidOn, threadStateOf}
 use Rattle.records.specs.declared.change.Change.the-variants as Changes
 use Rattle.records.specs.Changes.{changeMeant}
-use Rattle.threads.specs.Slice.{blank, threadsIn, Front}
+use Rattle.threads.specs.Slice.{blank, threadsIn}
 use Rattle.threads.proofs.Slices.{thread-at, length-threads}
 use Rattle.state.specs.declared.Sched.{Sched}
 use Rattle.state.specs.State.{firsts, coreFrom, statesOf, meant, Marks, Valid}

@@ -1,10 +1,10 @@
 -- One event pushed into the log's first words, of which a part was lent and came back.
-use Prim.Native.Nat.{ℕ, _+_, _-_, _*_, _≤_, _<_}
-use mathlib.Core.Path.{_≡_, refl, sym, ap, _∙_, subst}
-use mathlib.Core.List.{List, [], _∷_, _++_}
+use Prim.Native.Nat.{ℕ, _-_, _*_, _≤_}
+use mathlib.Core.Path.{_≡_, sym, ap, _∙_, subst}
+use mathlib.Core.List.{List, _∷_, _++_, []}
 use native.Mathlib.Omega.{arith}
 use borrow.Rule.Slice.PartMut.{putMid, mid-len, drop-put, same-len-mid}
-use lib.ListN.{length, take, drop}
+use lib.ListN.{length, take}
 use Rattle.model.specs.Types.{Event}
 use Rattle.model.specs.Accounting.{newest}
 use Rattle.rings.specs.declared.RingPos.{RingPos}

@@ -1,11 +1,11 @@
 -- What holds of the records where one has been changed.
 use Prim.Native.Nat.{ℕ, zero, suc, _+_, _*_, _<_, _≤_}
-use mathlib.Core.Path.{_≡_, refl, sym, ap, ap₂, _∙_, subst}
-use mathlib.Core.List.{List, [], _∷_, _++_, map}
+use mathlib.Core.Path.{_≡_, refl, sym, ap, ap₂, _∙_}
+use mathlib.Core.List.{List, _∷_, map, []}
 use native.Mathlib.Omega.{arith}
 use mathlib.Core.Bool.{Bool, true, false, cond}
 use mathlib.Core.Option.{none}
-use lib.ListN.{length, take, drop, getD, getElem?, set, length-map, length-append, take-append-drop}
+use lib.ListN.{length, take, drop, getElem?, set, length-map, length-append, take-append-drop}
 use Rattle.model.specs.declared.ThreadInfo.{ThreadInfo}
 use Rattle.model.specs.Types.{Core, ThreadRecord, Event, State}
 use Rattle.model.specs.Phases.{update}

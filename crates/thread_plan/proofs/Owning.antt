@@ -1,30 +1,30 @@
 -- The thread on a core that runs, and the marks of a core.
-use Prim.Native.Nat.{ℕ, zero, suc, _+_, _<_, _≤_}
-use mathlib.Core.Path.{_≡_, refl, sym, ap, ap₂, _∙_, subst}
-use mathlib.Core.Bool.{Bool, true, false, cond, not, _||_}
-use mathlib.Core.Option.{Option, none, some}
-use mathlib.Core.List.{List, [], _∷_, _++_, map}
+use Prim.Native.Nat.{ℕ, _<_}
+use mathlib.Core.Path.{_≡_, refl, ap, _∙_}
+use mathlib.Core.Bool.{Bool, true, false, cond, not}
+use mathlib.Core.Option.{Option, none}
+use mathlib.Core.List.{List}
 use native.Mathlib.Omega.{arith}
 use lib.Dec.{leb}
-use lib.ListN.{length, take, drop, getD, getElem?, set, length-set}
+use lib.ListN.{length, getD, set, length-set}
 use lib.Seq.{getD-set-same, getD-set-other}
 use borrow.Author.Tests.{leb-true, leb-false}
 use Rattle.model.specs.declared.ThreadInfo.{ThreadInfo}
 use Rattle.model.specs.declared.CoreState.the-variants as CoreStateCases
-use Rattle.model.specs.Types.{Core, CoreState, Idle, Switching, Running, OnCore, ThreadRecord, State}
+use Rattle.model.specs.Types.{Core, CoreState, Idle, Switching, Running, OnCore, State}
 use Rattle.model.specs.Phases.{update, holder}
-use Rattle.model.specs.Reading.{coreStateMeant, threadMeant}
-use Rattle.model.specs.Calls.{check, refusal, join, noCore, leaving, coreAt, coreStateOf, isIdle, isRunning, tidOf, tidOn, markBlock, markYield, idleCore}
+use Rattle.model.specs.Reading.{coreStateMeant}
+use Rattle.model.specs.Calls.{refusal, join, coreAt, coreStateOf, isIdle, isRunning, tidOf, tidOn, markBlock, markYield, idleCore}
 use Rattle.model.proofs.Invariants.{check-none}
 use Rattle.model.proofs.Placement.{check-rest, held-on, statesOf-range}
 use Rattle.model.proofs.PhaseLaws.{not-both}
 use Rattle.model.proofs.ThreadStates as States
-use Rattle.threads.specs.Slice.{blank, threadsIn}
+use Rattle.threads.specs.Slice.{threadsIn}
 use Rattle.threads.proofs.Slices.{length-threads}
 use Rattle.state.specs.declared.Sched.{Sched}
 use Rattle.state.specs.State.{firsts, coreFrom, statesOf, meant, Marks, Valid}
 use Rattle.state.proofs.Firsts.{coreAt-firsts}
-use Rattle.checks.specs.Check.{stops, coreRefusal}
+use Rattle.checks.specs.Check.{coreRefusal}
 use Rattle.checks.proofs.Refusals.{join-refusal}
 use Rattle.updates.proofs.Updating.{some-record}
 use Rattle.sched_marks.proofs.Marking.{firsts-update}

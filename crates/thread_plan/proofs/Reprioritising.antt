@@ -1,10 +1,10 @@
 -- `set_priority`, taken.
-use Prim.Native.Nat.{ℕ, zero, suc, _+_, _<_, _≤_}
-use mathlib.Core.Path.{_≡_, refl, sym, ap, ap₂, _∙_, subst}
-use mathlib.Core.Option.{Option, none, some}
+use Prim.Native.Nat.{ℕ, _<_}
+use mathlib.Core.Path.{_≡_, refl, sym, ap, ap₂, _∙_}
+use mathlib.Core.Option.{none}
 use mathlib.Core.List.{List, map}
 use native.Mathlib.Omega.{arith}
-use lib.ListN.{length, take, drop, getD, set, length-set}
+use lib.ListN.{take, set, length-set}
 use lib.Seq.{take-set-lt, drop-set-lt}
 use borrow.Author.Tests.{leb-false}
 use Rattle.model.specs.declared.ThreadInfo.{ThreadInfo}
@@ -17,7 +17,7 @@ use Rattle.model.proofs.Invariants.{check-none}
 use Rattle.rings.specs.declared.RingPos.{RingPos}
 use Rattle.records.specs.declared.change.Change.the-variants as Changes
 use Rattle.records.specs.Changes.{changeMeant}
-use Rattle.threads.specs.Slice.{threadsIn, Front}
+use Rattle.threads.specs.Slice.{threadsIn}
 use Rattle.state.specs.declared.Sched.{Sched}
 use Rattle.state.specs.State.{meant, Valid}
 use Rattle.state.specs.Done.{Done}

@@ -2,18 +2,17 @@
 use Prim.Native.Nat.{ℕ, zero, suc, _+_, _<_, _≤_, max}
 use mathlib.Core.Path.{_≡_, refl, sym, ap, ap₂, _∙_, subst}
 use mathlib.Core.Option.{Option, none, some}
-use mathlib.Core.List.{List, [], _∷_, _++_, map, map-append}
+use mathlib.Core.List.{List, _∷_, _++_, map, map-append, []}
 use native.Mathlib.Numerals.{add-one}
 use native.Mathlib.Omega.{arith}
-use lib.Dec.{leb}
-use lib.ListN.{length, take, drop, getD, getElem?, set, length-set}
+use lib.ListN.{length, take, getD, getElem?, set, length-set}
 use lib.Seq.{take-suc-set, drop-set-lt, length-take-le, getD-take}
 use borrow.Author.Tests.{leb-false}
 use Rattle.model.specs.declared.Tid.{Tid}
 use Rattle.model.specs.declared.Tick.{Tick}
 use Rattle.model.specs.declared.OptionTid.{OptionTid}
 use Rattle.model.specs.declared.ThreadInfo.{ThreadInfo}
-use Rattle.model.specs.Types.{ThreadRecord, Event, Spawned, State}
+use Rattle.model.specs.Types.{ThreadRecord, Spawned, State}
 use Rattle.model.specs.Phases.{update}
 use Rattle.model.specs.Reading.{threadMeant, optionTidMeant}
 use Rattle.model.specs.Accounting.{born, logged, newest}
@@ -24,7 +23,7 @@ use Rattle.rings.specs.declared.RingPos.{RingPos}
 use Rattle.rings.proofs.RingLaws.{element}
 use Rattle.records.specs.declared.change.Change.the-variants as Changes
 use Rattle.records.specs.Changes.{changeMeant}
-use Rattle.threads.specs.Slice.{blank, threadsIn, Front}
+use Rattle.threads.specs.Slice.{blank, threadsIn}
 use Rattle.threads.proofs.Slices.{threads-back, length-threads}
 use Rattle.state.specs.declared.Sched.{Sched}
 use Rattle.state.specs.State.{meant, Valid}

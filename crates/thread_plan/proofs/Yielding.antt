@@ -1,12 +1,12 @@
 -- `yield_now`: its ladder, and where it is taken.
-use Prim.Native.Nat.{ℕ, zero, suc, _+_, _<_, _≤_, _^_}
+use Prim.Native.Nat.{ℕ, _+_, _<_, _^_}
 use mathlib.Core.Path.{_≡_, refl, sym, ap, ap₂, _∙_, subst}
-use mathlib.Core.Bool.{Bool, true, false, cond, not}
+use mathlib.Core.Bool.{Bool, true, false}
 use mathlib.Core.Option.{Option, none, some}
-use mathlib.Core.List.{List, [], _∷_, _++_, map}
+use mathlib.Core.List.{List, map}
 use native.Mathlib.Omega.{arith}
 use lib.Dec.{leb}
-use lib.ListN.{length, take, drop, getD, getElem?, set}
+use lib.ListN.{take, getD, getElem?, set}
 use borrow.Author.Tests.{leb-false}
 use Rattle.settings.specs.declared.Refusal.{Refusal}
 use Rattle.settings.specs.Reading.{refusalNumber}
@@ -17,22 +17,21 @@ use Rattle.model.specs.Types.{Core, ThreadRecord, State}
 use Rattle.model.specs.Phases.{update}
 use Rattle.model.specs.Reading.{threadMeant}
 use Rattle.model.specs.Accounting.{addCounts}
-use Rattle.model.specs.Calls.{Call, Answer, ok, refused, accept, check, refusal, join, yield, tidOn, yieldsOf, limitNow}
+use Rattle.model.specs.Calls.{Answer, ok, accept, check, refusal, yield, tidOn, yieldsOf, limitNow}
 use Rattle.model.proofs.Invariants.{check-none}
 use Rattle.records.specs.declared.change.Change.the-variants as Changes
 use Rattle.records.specs.Changes.{changeMeant}
-use Rattle.threads.specs.Slice.{blank, threadsIn, Front}
+use Rattle.threads.specs.Slice.{blank, threadsIn}
 use Rattle.threads.proofs.Slices.{thread-at}
 use Rattle.state.specs.declared.Sched.{Sched}
 use Rattle.state.specs.State.{firsts, coreFrom, statesOf, meant, Valid}
-use Rattle.state.specs.Done.{Done}
 use Rattle.checks.specs.Check.{checkMeant, coreRefusal}
 use Rattle.checks.proofs.Refusals.{join-refusal}
 use Rattle.checks.proofs.Answers.{taken-none, ok-unrefused}
 use Rattle.updates.specs.Pending.{Pending}
 use Rattle.thread_plan.specs.Change.{withMarks}
 use Rattle.thread_plan.specs.Reads.{ownTid, knownPlace}
-use Rattle.thread_plan.proofs.OneRecord.{in-use, rebuilt, Changed}
+use Rattle.thread_plan.proofs.OneRecord.{in-use, rebuilt}
 use Rattle.thread_plan.proofs.Owning.{place-known, core-there, own-tid, own-known, yielded, yield-marks}
 use Rattle.thread_plan.proofs.Joining.{marked-done}
 

@@ -1,7 +1,7 @@
 -- One event written into the log's words.
 use Prim.Native.Nat.{ℕ, _*_}
 use mathlib.Core.Path.{_≡_}
-use mathlib.Core.List.{List, [], _∷_, _++_}
+use mathlib.Core.List.{List, _∷_, _++_, []}
 use lib.ListN.{length, drop}
 use Rattle.model.specs.Types.{Event}
 use Rattle.model.specs.Accounting.{newest}

@@ -1,0 +1,1 @@
+// What proofs by hand of the calls share (proofs/); it has no code.

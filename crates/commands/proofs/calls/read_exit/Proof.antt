@@ -1,0 +1,31 @@
+use borrow.Author.Needs.{needs}
+use mathlib.Core.Path.{sym, ap, _∙_}
+use denote.Ref.{now}
+use Rattle.text.specs.Lines.{needed}
+use Rattle.model.specs.Calls.{exit}
+use Rattle.script.specs.Script.{callOf}
+use Rattle.commands.specs.Reading.{numberReadMeant}
+use Rattle.commands.proofs.Saying.{one-bad, one-good}
+use Rattle.commands.proofs.calls.read_exit.Statement.{statement}
+use Rattle.commands.proofs.calls.read_exit.Tie as tie
+
+one-number-requires : tie.Need-one-number-requires
+one-number-requires c κs = search needs
+
+enum-known-k : tie.Need-enum-known-k
+enum-known-k c = search needs
+
+enum-known-n : tie.Need-enum-known-n
+enum-known-n c = search needs
+
+returns : tie.Need-returns
+unfolding callOf
+returns c = sym (one-bad exit needed (now (c .before .before .before .before .before .args .v)) _ (sym (c .before .before .before .one-number .ensures) ∙ ap numberReadMeant (c .before .k .given .1)))
+
+returns-2 : tie.Need-returns-2
+unfolding callOf
+returns-2 c = sym (one-good exit needed (now (c .before .before .before .before .before .args .v)) _ (sym (c .before .before .before .one-number .ensures) ∙ ap numberReadMeant (c .before .n .given .1)))
+
+pub read-exit-spec : {M : Type 1} → statement M
+read-exit-spec =
+    tie.close (tie.spec one-number-requires enum-known-k enum-known-n returns returns-2)

@@ -1,0 +1,5 @@
+pub mod Leaving
+pub mod Charging
+pub mod Applying
+pub mod Deciding
+pub mod Values

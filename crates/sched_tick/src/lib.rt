@@ -1,0 +1,38 @@
+// The call `end_tick`: what `tick_plan` decides, and the thread records in the lent slice.
+use model::ThreadInfo;
+use state::Sched;
+use threads::apply_moves;
+use threads::charge_all;
+use tick_plan::Ticked;
+use tick_plan::tick::core_states;
+use tick_plan::tick::moves_of;
+use tick_plan::tick::next_tick;
+use tick_plan::tick::tick_decided;
+use tick_plan::tick::tick_threads;
+use tick_plan::tick::ticked;
+ghost use Rattle.model.specs.Reading.{switchAnswerMeant};
+ghost use Rattle.model.specs.Calls;
+ghost use Rattle.state.specs.State.{Valid};
+ghost use Rattle.state.specs.Done.{Done};
+
+// "`end_tick`: phase 1 charges, then now + 1; the phases decide; what they decide is written into the accounts."
+pub fn end_tick(
+    s: Sched,
+    threads: &mut [ThreadInfo],
+    queue: &mut [u32],
+    prios: &[u32],
+    log: &mut [u64],
+    lanes: &mut [u64],
+) -> Ticked
+    requires { ⌜ Valid s (now threads) (now queue) (now prios) (now log) (now lanes) ⌝ }
+    ensures { λ r. ⌜ Done Calls.tick (switchAnswerMeant (r .answer) (r .switches .entries) (r .switches .count)) s (r .sched) (now (threads .entry)) (now (threads .exit)) (now (queue .entry)) (now (queue .exit)) (now (prios .entry)) (now (prios .entry)) (now (log .entry)) (now (log .exit)) (now (lanes .entry)) (now (lanes .exit)) ⌝ }
+{
+    let n = tick_threads(s);
+    let cores = core_states(s);
+    charge_all(threads, n, cores);
+    let d = tick_decided(s, queue, prios, log, lanes);
+    let moves = moves_of(d);
+    let tick = next_tick(s);
+    apply_moves(threads, lanes, moves, tick);
+    ticked(d)
+}

@@ -1,0 +1,4 @@
+pub mod Range
+pub mod Reading
+pub mod Ticking
+pub mod Parts
