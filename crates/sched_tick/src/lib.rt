@@ -15,7 +15,7 @@ ghost use Rattle.model.specs.Calls;
 ghost use Rattle.state.specs.State.{Valid};
 ghost use Rattle.state.specs.Done.{Done};
 
-// "`end_tick`: phase 1 charges, then now + 1; the phases decide; what they decide is written into the accounts."
+// Phase 1 charges, then now + 1; the phases decide; what they decide is written into the accounts at the new tick.
 pub fn end_tick(
     s: Sched,
     threads: &mut [ThreadInfo],

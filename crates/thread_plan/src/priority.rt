@@ -2,7 +2,6 @@
 use crate::log::log_event;
 use checks::check_priority;
 use model::CallAnswer;
-use model::SchedEvent;
 use model::SchedEventKind;
 use model::Tid;
 use records::change::Change;
@@ -48,15 +47,10 @@ pub fn priority_decided(
             prios[place] = priority;
             let now = s.now;
             let kind = SchedEventKind::Priority { priority: priority };
-            let event = SchedEvent {
-                tick: now,
-                tid: tid,
-                kind: kind,
-            };
             let capacities = s.capacities;
             let pos = s.log;
             let events = capacities.events;
-            let end = log_event(log, events, pos, event);
+            let end = log_event(log, events, pos, now, tid, kind);
             let mut next = s;
             next.log = end;
             Decided {

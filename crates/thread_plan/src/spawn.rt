@@ -3,7 +3,6 @@ use crate::log::log_event;
 use checks::check_spawn;
 use model::CallAnswer;
 use model::OptionTid;
-use model::SchedEvent;
 use model::SchedEventKind;
 use model::SpawnAnswer;
 use model::Tid;
@@ -73,15 +72,10 @@ pub fn spawn_decided(
             prios[place] = priority;
             let now = s.now;
             let kind = SchedEventKind::Spawn { parent: parent };
-            let event = SchedEvent {
-                tick: now,
-                tid: tid,
-                kind: kind,
-            };
             let capacities = s.capacities;
             let pos = s.log;
             let events = capacities.events;
-            let end = log_event(log, events, pos, event);
+            let end = log_event(log, events, pos, now, tid, kind);
             let mut next = s;
             next.threads = place + 1;
             next.queued = queued + 1;

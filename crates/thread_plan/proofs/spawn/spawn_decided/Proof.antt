@@ -23,8 +23,8 @@ enum-known-answer c = search needs
 enum-told : tie.Need-enum-told
 enum-told c = search needs
 
-cast-t24 : tie.Need-cast-t24
-cast-t24 c =
+cast-t23 : tie.Need-cast-t23
+cast-t23 c =
     let s = c .before .before .before .before .before .before .args .s in
     let p = c .before .before .before .before .before .before .pre in
     let k = spawn-room s (p .0) _ _ _ (p .1) (p .2) (taken-none _ _ (c .enum-told .given .1) (c .before .before .check-spawn .ensures)) in
@@ -86,7 +86,7 @@ spawn-decided-spec =
     check-spawn-requires
     enum-known-answer
     enum-told
-    cast-t24
+    cast-t23
     child-priority-requires
     mul-queue
     slice-write-queue
