@@ -1,16 +1,19 @@
 // Appended to a copy of the original sched.rs, its test module cut off.
 //
-//   driver random LISTS CALLS SEED   writes a script of random call lists
-//   driver exhaust DEPTH             writes every call list of that length over a small alphabet, for each policy
-//   driver answer                    runs a script from standard input on the Rust and writes the whole state after every call
+//   driver random LISTS CALLS SEED [always]   writes a script of random call lists of up to 2 CALLS - 1 calls
+//   driver limits LISTS CALLS SEED            the same with T 256, E 512 and S 4096, and many threads
+//   driver exhaust DEPTH PART PARTS           writes every PARTS-th call list of that length over a small alphabet, for each policy
+//   driver answer                             runs a script from standard input on the Rust and writes the answers and states
 //
-// A script has one call to a line: a code and its arguments, in decimal, an absent thread as `-`.
+// A script's first line says how many follow. Each has a code and its arguments, in decimal, an absent thread as `-`.
 //   0 POLICY QUANTUM COST CORES T E S ENTRY   new        6 TID NUMBER      set_priority
 //   1 PARENT ENTRY                            spawn      7 QUANTUM COST    set_timing
 //   2 CORE                                    exit       8 CORE TID        force_switch
 //   3 CORE TID                                join       9                 end_tick
 //   4 CORE                                    retired    10 CORE           close
-//   5 CORE                                    yield_now
+//   5 CORE                                    yield_now  11                show: the whole state
+// A refused `new` leaves the scheduler that was there. With `always` the state is shown after every call, otherwise after the last call of a list and
+// now and then before.
 // The refusals that 01 adds are made here, before the Rust is asked; the Rust then keeps the newest E events and S segments of a core.
 use std::fmt::Write as _;
 use std::io::{BufRead, Write as _};
@@ -224,8 +227,8 @@ fn switched(list: &[Switch]) -> String {
     for e in list {
         let out = e
             .out
-            .map_or("-,-".to_string(), |(t, r)| format!("{},{}", t, r.label()));
-        write!(s, " {},{},{}", e.core, out, or_dash(e.inn)).unwrap();
+            .map_or("- -".to_string(), |(t, r)| format!("{} {}", t, r.label()));
+        write!(s, ", {} {} {}", e.core, out, or_dash(e.inn)).unwrap();
     }
     s
 }
@@ -344,7 +347,7 @@ fn write_thread(t: &ThreadInfo, o: &mut String) {
     .unwrap();
     writeln!(
         o,
-        " times {} {} {} counts {} {} {} {} {} {}",
+        " times {} {} {} counts {} {} {} {} {} {} asked {} {}",
         x.arrival,
         or_dash(x.first_run),
         or_dash(x.finish),
@@ -353,7 +356,9 @@ fn write_thread(t: &ThreadInfo, o: &mut String) {
         x.blocked_ticks,
         x.dispatches,
         x.preemptions,
-        x.yields
+        x.yields,
+        or_dash(x.response()),
+        or_dash(x.turnaround())
     )
     .unwrap();
 }
@@ -362,7 +367,7 @@ fn write_thread(t: &ThreadInfo, o: &mut String) {
 fn write_questions(s: &Scheduler<()>, o: &mut String) {
     write!(
         o,
-        "asked {} {} {} {}",
+        "asked {} {}{}{}",
         s.next_tid(),
         bit(s.has_live_threads()),
         bit(s.has_runnable_threads()),
@@ -381,57 +386,87 @@ fn write_questions(s: &Scheduler<()>, o: &mut String) {
     for t in 0..=s.threads.len() as u32 {
         write!(o, " {}", or_dash(s.core_of(t))).unwrap();
     }
-    for t in &s.threads {
-        write!(
-            o,
-            " {} {}",
-            or_dash(t.stats.response()),
-            or_dash(t.stats.turnaround())
-        )
-        .unwrap();
-    }
     o.push('\n');
+    let f = s.summary();
+    writeln!(
+        o,
+        "figures {} {} {} {}",
+        f.avg_waiting.to_bits(),
+        f.avg_response.to_bits(),
+        f.avg_turnaround.to_bits(),
+        f.utilization.to_bits()
+    )
+    .unwrap();
 }
 
 fn answer() {
-    let input = std::io::stdin().lock();
+    let mut input = std::io::stdin().lock().lines().map(|l| l.unwrap());
     let mut output = std::io::BufWriter::with_capacity(1 << 16, std::io::stdout().lock());
-    let mut at: Option<Guarded> = None;
+    let count: u64 = input.next().unwrap().parse().unwrap();
+    let mut at = Guarded::new(&[2, 1, 0, 1, 1, 1, 1, 0]).unwrap_or_else(|_| unreachable!());
     let mut text = String::new();
-    for line in input.lines() {
-        let line = line.unwrap();
+    let mut seen = 0;
+    for line in input {
         let mut words = line.split(' ');
         let code: u64 = words.next().unwrap().parse().unwrap();
         let args: Vec<Option<u64>> = words.map(|w| w.parse().ok()).collect();
+        seen += 1;
         text.clear();
-        if code == 0 {
-            let plain: Vec<u64> = args.iter().map(|a| a.unwrap()).collect();
-            match Guarded::new(&plain) {
-                Ok(g) => {
-                    at = Some(g);
-                    text.push_str("ok\n");
-                }
-                Err(k) => {
-                    at = None;
-                    writeln!(text, "refused {}", k).unwrap();
-                }
+        let said = match code {
+            0 => {
+                let plain: Vec<u64> = args.iter().map(|a| a.unwrap()).collect();
+                Guarded::new(&plain).map(|g| {
+                    at = g;
+                    "ok".to_string()
+                })
             }
-        } else if let Some(g) = &mut at {
-            match g.call(code, &args) {
-                Ok(said) => writeln!(text, "{}", said).unwrap(),
-                Err(k) => writeln!(text, "refused {}", k).unwrap(),
-            }
+            11 => Ok("shown".to_string()),
+            _ => at.call(code, &args),
+        };
+        match said {
+            Ok(said) => writeln!(text, "{}", said).unwrap(),
+            Err(k) => writeln!(text, "refused {}", k).unwrap(),
         }
-        if let Some(g) = &at {
-            write_state(g, &mut text);
+        if code == 11 {
+            write_state(&at, &mut text);
         }
-        output.write_all(text.as_bytes()).unwrap();
+        // the reader may have stopped at a difference
+        if output.write_all(text.as_bytes()).is_err() {
+            std::process::exit(1);
+        }
     }
+    assert_eq!(seen, count, "the first line says how many follow");
 }
 
 // ---- scripts
 
-fn random_new(g: &mut Rng, o: &mut String) -> (u64, u64) {
+struct Script {
+    text: String,
+    lines: u64,
+}
+
+impl Script {
+    fn new() -> Self {
+        Script {
+            text: String::new(),
+            lines: 0,
+        }
+    }
+
+    fn line(&mut self, line: String) {
+        self.text.push_str(&line);
+        self.text.push('\n');
+        self.lines += 1;
+    }
+
+    fn write(&self) {
+        let mut output = std::io::stdout().lock();
+        writeln!(output, "{}", self.lines).unwrap();
+        output.write_all(self.text.as_bytes()).unwrap();
+    }
+}
+
+fn random_new(g: &mut Rng, o: &mut Script) -> (u64, u64) {
     let policy = [0, 2, 3, 2, 3, 1][g.below(6) as usize];
     let quantum = match g.below(12) {
         0 => 0,
@@ -467,100 +502,118 @@ fn random_new(g: &mut Rng, o: &mut String) -> (u64, u64) {
     } else {
         1 + g.below(4096)
     };
-    writeln!(
-        o,
-        "0 {} {} {} {} {} {} {} {}",
-        policy,
-        quantum,
-        cost,
-        cores,
-        t,
-        e,
-        s,
-        g.below(5)
-    )
-    .unwrap();
+    let entry = g.below(5);
+    o.line(format!(
+        "0 {policy} {quantum} {cost} {cores} {t} {e} {s} {entry}"
+    ));
     (cores.clamp(1, 8), t.clamp(1, 256))
 }
 
-fn random_call(g: &mut Rng, cores: u64, threads: u64, o: &mut String) {
+fn random_call(g: &mut Rng, cores: u64, threads: u64) -> String {
     let core = if g.one_in(14) {
         cores + g.below(2)
     } else {
         g.below(cores)
     };
-    let tid = g.below(threads + 1);
-    let odd = g.one_in(200);
-    let core = if odd { 4_294_967_295 } else { core };
-    let some = |g: &mut Rng, n: u64| {
-        if g.one_in(3) {
-            "-".to_string()
-        } else {
-            n.to_string()
-        }
+    let core = if g.one_in(200) {
+        4_294_967_295
+    } else {
+        core
     };
+    let tid = g.below(threads + 1);
+    let some = |g: &mut Rng, n: u64| or_dash((!g.one_in(3)).then_some(n));
     match g.below(100) {
-        0..=13 => {
-            let p = some(g, tid);
-            writeln!(o, "1 {} {}", p, g.below(50))
+        0..=13 => format!("1 {} {}", some(g, tid), g.below(50)),
+        14..=19 => format!("2 {core}"),
+        20..=27 => format!("3 {core} {tid}"),
+        28..=47 => format!("4 {core}"),
+        48..=52 => format!("5 {core}"),
+        53..=58 => format!("6 {tid} {}", g.below(14)),
+        59..=60 => {
+            let quantum = if g.one_in(5) { 1_000_001 } else { g.below(4) };
+            let cost = if g.one_in(9) { 10_001 } else { g.below(3) };
+            format!("7 {quantum} {cost}")
         }
-        14..=19 => writeln!(o, "2 {}", core),
-        20..=27 => writeln!(o, "3 {} {}", core, tid),
-        28..=47 => writeln!(o, "4 {}", core),
-        48..=52 => writeln!(o, "5 {}", core),
-        53..=58 => writeln!(o, "6 {} {}", tid, g.below(14)),
-        59..=60 => writeln!(
-            o,
-            "7 {} {}",
-            if g.one_in(5) { 1_000_001 } else { g.below(4) },
-            if g.one_in(9) { 10_001 } else { g.below(3) }
-        ),
-        61..=67 => {
-            let t = some(g, tid);
-            writeln!(o, "8 {} {}", core, t)
-        }
-        68..=98 => writeln!(o, "9"),
-        _ => writeln!(o, "10 {}", core),
+        61..=67 => format!("8 {core} {}", some(g, tid)),
+        68..=98 => "9".to_string(),
+        _ => format!("10 {core}"),
     }
-    .unwrap();
 }
 
-fn random(lists: u64, calls: u64, seed: u64) {
-    let mut output = std::io::BufWriter::new(std::io::stdout().lock());
+fn random(lists: u64, calls: u64, seed: u64, always: bool) {
     let mut g = Rng::new(seed);
-    let mut text = String::new();
+    let mut o = Script::new();
     for _ in 0..lists {
-        text.clear();
-        let (cores, threads) = random_new(&mut g, &mut text);
-        let threads = threads.min(12);
+        let (cores, threads) = random_new(&mut g, &mut o);
         for _ in 0..g.below(2 * calls) {
-            random_call(&mut g, cores, threads, &mut text);
+            if always || g.one_in(25) {
+                o.line("11".to_string());
+            }
+            let call = random_call(&mut g, cores, threads.min(12));
+            o.line(call);
         }
-        output.write_all(text.as_bytes()).unwrap();
+        o.line("11".to_string());
     }
+    o.write();
 }
 
-fn exhaust(depth: u32) {
+// Many threads, long queues, rings that fill and wrap: each list spawns first, and ticks more often.
+fn limits(lists: u64, calls: u64, seed: u64) {
+    let mut g = Rng::new(seed);
+    let mut o = Script::new();
+    for _ in 0..lists {
+        let policy = 1 + g.below(3);
+        let cores = 1 + g.below(8);
+        let quantum = 1 + g.below(3);
+        let cost = g.below(2);
+        o.line(format!("0 {policy} {quantum} {cost} {cores} 256 512 4096 0"));
+        for _ in 0..g.below(300) {
+            let parent = g.below(4);
+            o.line(format!("1 {parent} 0"));
+        }
+        for _ in 0..calls {
+            let call = if g.one_in(3) {
+                random_call(&mut g, cores, 256)
+            } else if g.one_in(2) {
+                format!("4 {}", g.below(cores))
+            } else {
+                "9".to_string()
+            };
+            if !call.starts_with("10 ") {
+                o.line(call);
+            }
+        }
+        o.line("11".to_string());
+    }
+    o.write();
+}
+
+fn exhaust(depth: u32, part: u64, parts: u64) {
     let calls = [
         "1 0 0", "2 0", "2 1", "3 0 1", "3 1 0", "4 0", "4 1", "5 0", "6 1 9", "8 0 -", "8 0 1",
-        "9",
+        "9", "10 0",
     ];
-    let mut output = std::io::BufWriter::new(std::io::stdout().lock());
+    let mut o = Script::new();
     for start in [
+        "0 0 1 0 2 3 4 2 0",
         "0 1 1 0 1 3 4 2 0",
         "0 2 1 0 2 3 4 2 0",
         "0 2 2 1 1 3 4 2 0",
         "0 3 1 0 1 3 4 2 0",
         "0 3 1 1 2 3 4 2 0",
     ] {
-        for mut k in 0..(calls.len() as u64).pow(depth) {
-            writeln!(output, "{}", start).unwrap();
+        let n = calls.len() as u64;
+        for first in (0..n.pow(depth)).filter(|k| k % parts == part) {
+            o.line(start.to_string());
+            let mut k = first;
             for _ in 0..depth {
-                writeln!(output, "{}", calls[(k % calls.len() as u64) as usize]).unwrap();
-                k /= calls.len() as u64;
+                o.line(calls[(k % n) as usize].to_string());
+                k /= n;
             }
+            o.line("11".to_string());
         }
     }
+    o.write();
 }
 
 fn main() {
@@ -571,9 +624,10 @@ fn main() {
             .unwrap_or_else(|| panic!("argument {} is a number", i))
     };
     match a.get(1).map(String::as_str) {
-        Some("random") => random(n(2), n(3), n(4)),
-        Some("exhaust") => exhaust(n(2) as u32),
+        Some("random") => random(n(2), n(3), n(4), a.len() > 5),
+        Some("limits") => limits(n(2), n(3), n(4)),
+        Some("exhaust") => exhaust(n(2) as u32, n(3), n(4)),
         Some("answer") => answer(),
-        _ => panic!("random LISTS CALLS SEED, exhaust DEPTH or answer"),
+        _ => panic!("random, limits, exhaust or answer: the head of driver.rs says more"),
     }
 }

@@ -1,3 +1,2 @@
--- Laws of the fields of a value, and of what a call line and a line up to `cores=` say.
-pub mod Commas
+-- What a call line and a line up to `cores=` say.
 pub mod Saying

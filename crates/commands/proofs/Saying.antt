@@ -10,7 +10,7 @@ use Rattle.model.specs.Calls.{tick}
 use Rattle.text.specs.Lines.{Read, bad, good, mapRead, both, fields, needed, one, two}
 use Rattle.settings.specs.Settings.{Head, CoresKey}
 use Rattle.script.specs.Script.{done, upTo8, coresOf, heading, TickKey, bareTick, callOf}
-use Rattle.commands.specs.Fields.{pair}
+use Rattle.fields.specs.Fields.{pair}
 
 ---- one field
 

@@ -1,3 +1,2 @@
--- What the values of the program stand for, and the two fields of a value.
-pub mod Fields
+-- What the values of the program stand for.
 pub mod Reading

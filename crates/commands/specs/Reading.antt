@@ -2,7 +2,8 @@
 use Prim.Native.Nat.{ℕ}
 use mathlib.Core.Option.{Option, none, some}
 use Rattle.text.specs.Lines.{Read, bad, good}
-use Rattle.settings.specs.Reading.{refusalNumber, settingsMeant, headMeant}
+use Rattle.settings.specs.Reading.{refusalNumber, settingsMeant}
+use Rattle.rcfg.specs.Reading.{headMeant}
 use Rattle.model.specs.Calls.{Call, spawn, exit, join, retired, yield, priority, force, tick, close}
 use Rattle.model.specs.Reading.{optionTidMeant}
 use Rattle.script.specs.Script.{CallKey, SpawnKey, ExitKey, JoinKey, RetiredKey, YieldKey, PrioKey, ForceKey, TickKey, CloseKey, Heading, more, done}
@@ -12,34 +13,8 @@ use Rattle.commands.specs.declared.CallRead as CallReads
 use Rattle.commands.specs.declared.CallRead.the-variants as CallReadCases
 use Rattle.commands.specs.declared.CallKey as CallKeys
 use Rattle.commands.specs.declared.CallKey.the-variants as CallKeyCases
-use Rattle.commands.specs.declared.NumberRead as NumberReads
-use Rattle.commands.specs.declared.NumberRead.the-variants as NumberReadCases
-use Rattle.commands.specs.declared.MaybeRead as MaybeReads
-use Rattle.commands.specs.declared.MaybeRead.the-variants as MaybeReadCases
-use Rattle.commands.specs.declared.NumbersRead as NumbersReads
-use Rattle.commands.specs.declared.NumbersRead.the-variants as NumbersReadCases
-use Rattle.commands.specs.declared.NumberMaybeRead as NumberMaybeReads
-use Rattle.commands.specs.declared.NumberMaybeRead.the-variants as NumberMaybeReadCases
 use Rattle.commands.specs.declared.HeadingRead as HeadingReads
 use Rattle.commands.specs.declared.HeadingRead.the-variants as HeadingReadCases
-
----- fields
-
-abbrev pub numberReadMeant : NumberReads.NumberRead → Read ℕ
-numberReadMeant (NumberReadCases.Is n) = good n
-numberReadMeant (NumberReadCases.Refused k) = bad (refusalNumber k)
-
-abbrev pub maybeReadMeant : MaybeReads.MaybeRead → Read (Option ℕ)
-maybeReadMeant (MaybeReadCases.Is t) = good (optionTidMeant t)
-maybeReadMeant (MaybeReadCases.Refused k) = bad (refusalNumber k)
-
-abbrev pub numbersReadMeant : NumbersReads.NumbersRead → Read (ℕ × ℕ)
-numbersReadMeant (NumbersReadCases.Are a b) = good (a, b)
-numbersReadMeant (NumbersReadCases.Refused k) = bad (refusalNumber k)
-
-abbrev pub numberMaybeReadMeant : NumberMaybeReads.NumberMaybeRead → Read (ℕ × Option ℕ)
-numberMaybeReadMeant (NumberMaybeReadCases.Are a t) = good (a, optionTidMeant t)
-numberMaybeReadMeant (NumberMaybeReadCases.Refused k) = bad (refusalNumber k)
 
 ---- calls
 

@@ -3,18 +3,18 @@ ghost use mathlib.Core.Path.{_≡_};
 ghost use mathlib.Core.Option.{some};
 ghost use Rattle.text.specs.Lines.{mapRead};
 ghost use Rattle.settings.specs.Settings.{setting, CoresKey};
-ghost use Rattle.settings.specs.Reading.{keyMeant, headMeant};
+ghost use Rattle.rcfg.specs.Reading.{keyMeant, headMeant};
 ghost use Rattle.script.specs.Script.{more, heading, headLine};
 ghost use Rattle.commands.specs.Reading.{headingReadMeant};
 use crate::HeadingRead;
-use crate::NumberRead;
-use crate::fields::one_number;
-use settings::Head;
-use settings::HeadKey;
-use settings::HeadRead;
+use fields::NumberRead;
+use fields::one_number;
+use rcfg::Head;
+use rcfg::HeadKey;
+use rcfg::HeadRead;
+use rcfg::reading::head_key;
+use rcfg::reading::set_value;
 use settings::Refusal;
-use settings::reading::head_key;
-use settings::reading::set_value;
 use text::lines::value;
 
 fn read_setting(h: Head, key: HeadKey, v: &[u8]) -> HeadingRead

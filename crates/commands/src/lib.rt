@@ -2,12 +2,11 @@
 use model::CoreId;
 use model::OptionTid;
 use model::Tid;
-use settings::Head;
+use rcfg::Head;
 use settings::Refusal;
 use settings::SchedConfig;
 
 pub mod calls;
-pub mod fields;
 pub mod heading;
 
 // A call as a script writes it. A thread that is spawned has entry 0.
@@ -41,27 +40,6 @@ pub enum CallKey {
     Tick,
     Close,
     Unknown,
-}
-
-// What one field says, and what two say.
-pub enum NumberRead {
-    Is(u32),
-    Refused(Refusal),
-}
-
-pub enum MaybeRead {
-    Is(OptionTid),
-    Refused(Refusal),
-}
-
-pub enum NumbersRead {
-    Are(u32, u32),
-    Refused(Refusal),
-}
-
-pub enum NumberMaybeRead {
-    Are(u32, OptionTid),
-    Refused(Refusal),
 }
 
 // What a line up to `cores=` makes of the lines before it.

@@ -26,8 +26,8 @@ use Rattle.queue.specs.Words.{movesIn}
 use Rattle.queue.specs.Ready.{Picked}
 use Rattle.decide.specs.Forced.{asked}
 use Rattle.decide.proofs.Asked.{absent, taken-at, can-take, cannot-take}
-use Rattle.records.specs.Moves.{movedThreads, MoveRoom}
-use Rattle.records.proofs.Moving.{moved-threads}
+use Rattle.record_moves.specs.Moves.{movedThreads, MoveRoom}
+use Rattle.record_moves.proofs.Moving.{moved-threads}
 use Rattle.threads.specs.Slice.{blank, threadsIn, Front, tidAt, MovesFit}
 use Rattle.threads.proofs.Slices.{thread-at, length-threads}
 use Rattle.state.specs.declared.Sched.{Sched}
@@ -39,10 +39,10 @@ use Rattle.accounts.proofs.Figures.{firsts-same, applied-log, applied-timelines
 use Rattle.rings.specs.Timeline.{segmentsIn}
 use Rattle.tick_plan.specs.declared.Planned.{Planned}
 use Rattle.tick_plan.specs.declared.Written.{Written}
-use Rattle.tick_plan.specs.Plan.{MovedRecords, WrittenOf}
+use Rattle.tick_plan.specs.Plan.{MovedRecords, WriteFits, WrittenOf}
 use Rattle.tick_plan.proofs.Range.{In, CoreIn, MovesIn, QueueIn, moves-append, in-dispatchMoves, in-outOf, placed-cores, placed-queue}
 use Rattle.tick_plan.proofs.Reading.{prioritiesOf, priority-moved, front-long, moves-at, few-takes, behind-more, lane-same}
-use Rattle.force_plan.specs.Plan.{ForcePending, ForcedOf, coresOf, stateAt, forceRefusal, forcedSched}
+use Rattle.force_plan.specs.Plan.{ForcePending, ForceFits, ForcedOf, coresOf, stateAt, forceRefusal, forcedSched}
 
 -- the thread at a place of a queue of known threads is known
 queue-at : (N : ℕ) (q : List ℕ) (k : ℕ) → QueueIn N q → k < length q → getD q k 0 < N
@@ -106,6 +106,33 @@ module _ (s : Sched) (ts : List ThreadInfo) (qs ps ls ws : List ℕ) (v : Valid 
       waits : at < length (M .queue)
       unfolding forceRefusal
       waits = omega (arith, queue-long, leb-false (s .queued) at (check-none (absent nm) _ _ (check-rest 14 _ _ (check-rest 12 _ _ (check-rest 11 _ _ (check-rest 4 _ _ h))))))
+
+      settled : isSwitching (stateAt s i) ≡ false
+      unfolding forceRefusal
+      settled = check-none 14 _ _ (check-rest 12 _ _ (check-rest 11 _ _ (check-rest 4 _ _ h)))
+
+      -- what the parts ask
+      pub plan-fits : ForceFits s i at qs ws
+      unfolding meant
+      plan-fits =
+          record {
+            cores = v .sizes .cores;
+            there = leb-false (s .cores) i there-is;
+            settled = settled;
+            waits = omega (arith, waits, queue-long);
+            queued = omega (arith, v .sizes .waiting, v .sizes .queue);
+            words = omega (arith, v .sizes .lanes);
+            pick = (asked (M .config .policy) (rules M .prio) nm (M .queue), pick);
+          }
+
+      pub write-fits : (ws' : List ℕ) (count now : ℕ) → length ws' ≡ length ws → count ≤ 3 → now ≡ s .now .0 → WriteFits s ls ws' count now
+      unfolding meant limitNow
+      write-fits ws' count now e l t =
+          record { words = v .sizes .log; ring = v .rings .events; within = omega (arith, v .sizes .lanes); early = omega (arith, v .bounded .now) }
+
+      pub switches-fit : (ws' : List ℕ) (count now : ℕ) (ls' : List ℕ) (w : Written) → count ≤ 3 → WriteFits s ls ws' count now → WrittenOf s now (movesIn ws' count) ls ls' w → s .«context_switches» + w .takes < 2 ^ 64
+      unfolding meant
+      switches-fit ws' count now ls' w l f g = omega (arith, few-takes ws' count (f .within), g .takes, switches-figure M (v .bounded))
 
       abbrev taken : ℕ
       taken = getD (take (s .queued) qs) at 0

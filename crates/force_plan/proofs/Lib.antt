@@ -1,2 +1,3 @@
 pub mod Forcing
 pub mod Leavers
+pub mod Parts

@@ -1,11 +1,12 @@
 -- What a forced switch leaves beside the thread records, and what is still to be done to them.
 use Prim.Native.Nat.{ℕ, _+_, _<_, _≤_}
 use mathlib.Core.Path.{_≡_}
-use mathlib.Core.Bool.{Bool, false}
+use mathlib.Core.Bool.{false}
 use mathlib.Core.Option.{Option, none}
 use mathlib.Core.List.{List, _++_}
 use lib.Dec.{leb}
 use lib.ListN.{length, take, drop, getD}
+use Rattle.settings.specs.Reading.{policyMeant}
 use Rattle.model.specs.declared.CoreState.the-variants as CoreStateCases
 use Rattle.model.specs.declared.ThreadInfo.{ThreadInfo}
 use Rattle.model.specs.Types.{CoreState, Core}
@@ -13,13 +14,15 @@ use Rattle.model.specs.Phases.{update, without, dispatchMoves}
 use Rattle.model.specs.Calls.{Answer, force, check, anyLeaving, isSwitching, outOf, backOf, forcedCore, limitSwitches}
 use Rattle.model.specs.Reading.{coreStateMeant}
 use Rattle.queue.specs.Words.{movesIn, NoLonger}
+use Rattle.queue.specs.Ready.{Picked, prioOf}
 use Rattle.threads.specs.Slice.{MovesFit}
 use Rattle.state.specs.declared.Sched.{Sched}
-use Rattle.state.specs.State.{firsts, coreFrom, statesOf, moveRoom}
+use Rattle.state.specs.State.{firsts, coreFrom, statesOf, moveRoom, Valid}
 use Rattle.state.specs.Done.{Done}
 use Rattle.tick_plan.specs.declared.Planned.{Planned}
 use Rattle.tick_plan.specs.declared.Written.{Written}
 use Rattle.tick_plan.specs.Plan.{MovedRecords}
+use Rattle.decide.specs.Forced.{asked}
 use Rattle.decide.proofs.Asked.{absent}
 
 -- a forced switch that is done once the moves are applied to the records
@@ -38,6 +41,27 @@ unfoldable pub forceRefusal : Sched → (core : ℕ) → (named : Option ℕ) �
 forceRefusal s i n at =
     check 4 (leb (s .cores) i) (check 11 (s .closed) (check 12 (anyLeaving (firsts (coresOf s) (s .cores))) (check 14 (isSwitching (stateAt s i))
     (check (absent n) (leb (s .queued) at) (check 19 (leb limitSwitches (s .«context_switches»)) none)))))
+
+-- the place in the queue of the thread that is asked for
+abbrev pub AskedAt : Sched → (named : Option ℕ) → (qs ps : List ℕ) → (place : ℕ) → Type 0
+AskedAt s n qs ps at = Picked (asked (policyMeant (s .config .policy)) (prioOf (take (s .threads) ps)) n (take (s .queued) qs)) (take (s .queued) qs) at
+
+-- a forced switch that is not refused
+pub record Forceable (s : Sched) (core : ℕ) (named : Option ℕ) (at : ℕ) (ts : List ThreadInfo) (qs ps ls ws : List ℕ) : Type 0 where
+  pub valid : Valid s ts qs ps ls ws
+  pub place : AskedAt s named qs ps at
+  pub unrefused : forceRefusal s core named at ≡ none
+
+---- deciding
+
+pub record ForceFits (s : Sched) (core at : ℕ) (qs ws : List ℕ) : Type 0 where
+  pub cores : s .cores ≤ 8
+  pub there : core < s .cores
+  pub settled : isSwitching (stateAt s core) ≡ false
+  pub waits : at < s .queued
+  pub queued : s .queued ≤ length qs
+  pub words : moveRoom ≤ length ws
+  pub pick : (who : Option ℕ) × Picked who (take (s .queued) qs) at
 
 pub record ForcedOf (s : Sched) (core at : ℕ) (qs qs' ws ws' : List ℕ) (p : Planned) : Type 0 where
   pub cores : firsts (coreFrom (statesOf (p .states)) (p .exits) (p .blocks) (p .yields) (p .progressed)) (s .cores) ≡ update core (forcedCore (s .config .«switch_cost») (getD (take (s .queued) qs) at 0)) (firsts (coresOf s) (s .cores))

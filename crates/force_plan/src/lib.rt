@@ -1,4 +1,7 @@
-// What `force_switch` does beside the thread records: so far, what it refuses.
+// What `force_switch` does beside the thread records: it refuses, or decides and writes the log. The records are moved by the crate above, which
+// holds the lent slice.
+pub mod force;
+
 use checks::LIMIT;
 use model::CallAnswer;
 use model::CoreId;

@@ -7,6 +7,7 @@ use mathlib.Core.List.{List, [], _∷_, _++_}
 use Rattle.model.specs.Types.{RoundRobin, State}
 use Rattle.model.specs.Calls.{Call, spawn, exit, join, retired, yield, priority, timing, force, tick, close, Made, made, unmade}
 use Rattle.model.specs.Claims.{Observed, gets, takesOn, leavesOn, reportsAfter, reportsCleared, reports, observed, observeAll, unobserved, allReported, conditionsHold, timingKept, waitConditions, ticks, getsWithin, getsNone, begins, stillWaited, stayConditions, runTicks, ranOf, stayEnd}
+use lib.ListN.{getElem?}
 use Rattle.model.specs.Claims.{bound}
 use Rattle.model.specs.Cases.{compute, at}
 
@@ -93,3 +94,88 @@ timingKept-same = refl
 timingKept-other : from board true (λ s. timingKept 2 1 (unobserved s) (timing 3 1 ∷ timing 2 1 ∷ [])) ≡ false
 unfolding judge
 timingKept-other = refl
+
+---- four looser readings under which the claims would be false: for each a list in which the bound is passed, and the statement's condition does not hold
+
+-- quantum 1, cost 0, one core; thread 1 was forced onto it, thread 2 is at the front
+abbrev brief : Made
+brief = at RoundRobin 1 0 1
+
+abbrev put-on : List Call
+put-on = spawn none 0 ∷ spawn none 0 ∷ retired 0 ∷ force 0 (some 1) ∷ []
+
+-- a `retired` before the dispatch is no report of it: thread 1 keeps the core, and thread 2 gets none within 1 tick
+early-front : from brief none (λ s. getElem? (observeAll (unobserved s) put-on .state .queue) 0) ≡ some 2
+unfolding judge
+early-front = refl
+
+early-none : from brief true (λ s. getsWithin (bound 0 1 1 0) 2 (observeAll (unobserved s) put-on) (tick ∷ [])) ≡ false
+unfolding judge
+early-none = refl
+
+early-no-report : from brief true (λ s. waitConditions 1 0 2 (observeAll (unobserved s) put-on) (tick ∷ [])) ≡ false
+unfolding judge
+early-no-report = refl
+
+-- timing that is changed and restored has changed: thread 1 is at the front and gets no core within 1 tick
+abbrev restored : List Call
+restored = timing 5 0 ∷ retired 0 ∷ tick ∷ timing 1 0 ∷ []
+
+restored-none : from brief true (λ s. getsWithin (bound 0 1 1 0) 1 (observeAll (unobserved s) (spawn none 0 ∷ [])) restored) ≡ false
+unfolding judge
+restored-none = refl
+
+restored-changed : from brief true (λ s. waitConditions 1 0 1 (observeAll (unobserved s) (spawn none 0 ∷ [])) restored) ≡ false
+unfolding judge
+restored-changed = refl
+
+restored-unkept : from brief true (λ s. timingKept 1 0 (unobserved s) restored) ≡ false
+unfolding judge
+restored-unkept = refl
+
+-- who waits is judged after phase 4: before it a thread waited in both ticks, an idle core took it, and thread 0 is charged 2 in one stay
+abbrev pair : Made
+pair = at RoundRobin 1 0 2
+
+abbrev filled-up : List Call
+filled-up = spawn none 0 ∷ retired 0 ∷ tick ∷ spawn none 0 ∷ exit 1 ∷ retired 0 ∷ retired 1 ∷ tick ∷ []
+
+filled-charged : from pair 0 (λ s. ranOf (stayEnd 0 (unobserved s) filled-up .accounts .threads) 0) ≡ 2
+unfolding judge
+filled-charged = refl
+
+filled-nobody : from pair true (λ s. stayConditions 1 0 0 (unobserved s) filled-up) ≡ false
+unfolding judge
+filled-nobody = refl
+
+-- a retake begins a new stay: thread 1 leaves core 0, since it joined, and is taken there again in the same tick end, since it was woken; it is charged once before and
+-- once after, and the stay that began with `swapped` ends with the leave
+abbrev swapped : List Call
+swapped = spawn none 0 ∷ spawn none 0 ∷ exit 0 ∷ tick ∷ []
+
+abbrev woken : List Call
+woken = join 0 2 ∷ exit 1 ∷ spawn none 0 ∷ spawn none 0 ∷ retired 0 ∷ retired 1 ∷ tick ∷ []
+
+abbrev again : List Call
+again = retired 0 ∷ retired 1 ∷ tick ∷ []
+
+retaken-begins : from pair false (λ s. begins 0 (unobserved s) swapped) ≡ true
+unfolding judge
+retaken-begins = refl
+
+retaken-holds : from pair false (λ s. stayConditions 1 0 0 (observeAll (unobserved s) swapped) (woken ++ again)) ≡ true
+unfolding judge
+retaken-holds = refl
+
+retaken-stay : from pair 0 (λ s. ranOf (stayEnd 0 (observeAll (unobserved s) swapped) (woken ++ again) .accounts .threads) 1) ≡ 1
+unfolding judge
+retaken-stay = refl
+
+retaken-both : from pair 0 (λ s. ranOf (observeAll (unobserved s) (swapped ++ (woken ++ again)) .state .accounts .threads) 1) ≡ 2
+unfolding judge
+retaken-both = refl
+
+-- the second stay begins with the tick that took it again
+retaken-new : from pair false (λ s. begins 0 (unobserved s) (swapped ++ woken)) ≡ true
+unfolding judge
+retaken-new = refl

@@ -174,15 +174,18 @@ getsNone x w (c ∷ cs) = not (gets x (movesOf w c)) && getsNone x (observe w c)
 abbrev pub bound : (p cores quantum cost : ℕ) → ℕ
 bound p n q k = (p / max n 1 + 1) * (q + k)
 
--- "wherever in it a thread is ready with p ahead of it: it gets a core within the next ... ticks that are not refused."
-abbrev pub WaitBound : Type 0
-WaitBound =
-    (q k n capT capE capS entry : ℕ) (s : State) → new RoundRobin q k n capT capE capS entry ≡ made s →
-    (before during : List Call) → timingKept q k (unobserved s) before ≡ true →
+-- "wherever in it a thread is ready with p ahead of it: it gets a core within the next ... ticks that are not refused.": s is what `new` left, `before` the calls up to
+-- the point between calls at which thread x is ready with p ahead of it, `during` those that follow
+abbrev pub WaitHolds : (quantum cost cores : ℕ) → State → (before during : List Call) → Type 0
+WaitHolds q k n s before during =
+    timingKept q k (unobserved s) before ≡ true →
     (x p : ℕ) → getElem? (observeAll (unobserved s) before .state .queue) p ≡ some x →
     waitConditions q k x (observeAll (unobserved s) before) during ≡ true →
     bound p n q k ≤ ticks (observeAll (unobserved s) before) during →
     getsWithin (bound p n q k) x (observeAll (unobserved s) before) during ≡ true
+
+abbrev pub WaitBound : Type 0
+WaitBound = (q k n capT capE capS entry : ℕ) (s : State) → new RoundRobin q k n capT capE capS entry ≡ made s → (before during : List Call) → WaitHolds q k n s before during
 
 -- the same, the other way round: a thread that gets no core has not waited that long
 abbrev pub WaitBound′ : Type 0
@@ -235,14 +238,16 @@ stayEnd c w (k ∷ ks) = let r = stayEnd c (observe w k) ks in cond (leavesOn c 
 
 -- "No thread is charged more run ticks than a quantum in one stay on a core if some thread still waited, after idle cores were filled, at the end
 -- of each charged tick.": x is the thread of core c when the stay begins, and its own run ticks grow by at most the quantum till the stay ends
-abbrev pub StayBound : Type 0
-StayBound =
-    (q k n capT capE capS entry : ℕ) (s : State) → new RoundRobin q k n capT capE capS entry ≡ made s →
-    (before during : List Call) → timingKept q k (unobserved s) before ≡ true →
+abbrev pub StayHolds : (quantum cost : ℕ) → State → (before during : List Call) → Type 0
+StayHolds q k s before during =
+    timingKept q k (unobserved s) before ≡ true →
     (c x : ℕ) → begins c (unobserved s) before ≡ true →
     holder (coreAt (observeAll (unobserved s) before .state .cores) c .state) ≡ some x →
     stayConditions q k c (observeAll (unobserved s) before) during ≡ true →
     ranOf (stayEnd c (observeAll (unobserved s) before) during .accounts .threads) x ≤ ranOf (observeAll (unobserved s) before .state .accounts .threads) x + q
+
+abbrev pub StayBound : Type 0
+StayBound = (q k n capT capE capS entry : ℕ) (s : State) → new RoundRobin q k n capT capE capS entry ≡ made s → (before during : List Call) → StayHolds q k s before during
 
 -- demand 3, on the definition
 abbrev pub RoundRobinBounds : Type 0

@@ -1,5 +1,3 @@
-pub mod Charging
-pub mod Moving
 pub mod Steps
 pub mod Summing
 pub mod Waking

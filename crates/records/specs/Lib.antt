@@ -1,5 +1,3 @@
 pub mod Changes
-pub mod Charging
-pub mod Moves
 pub mod Totals
 pub mod Waking

@@ -20,11 +20,14 @@ pub fn retired(s: Sched, core: CoreId) -> Answered
     ensures { λ r. ⌜ ((ts : List ThreadInfo) (qs ps ls ws : List ℕ) → Valid s ts qs ps ls ws → Done (Calls.retired (core .0)) (callAnswerMeant (r .answer)) s (r .sched) ts ts qs qs ps ps ls ls ws ws) ⌝ }
 {
     let answer = check_retired(s, core);
+    let mut next = s;
     match answer {
-        CallAnswer::Refused(_) => Answered { sched: s, answer },
+        CallAnswer::Refused(_) => Answered {
+            sched: next,
+            answer,
+        },
         CallAnswer::Taken => {
             let i = core.0 as usize;
-            let mut next = s;
             next.progressed[i] = true;
             Answered {
                 sched: next,

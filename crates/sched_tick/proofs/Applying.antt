@@ -29,7 +29,7 @@ use denote.Triple.Clauses.{ensured, lasts}
 use denote.Triple.Walked.{says}
 use Rattle.model.specs.declared.ThreadInfo.{ThreadInfo}
 use Rattle.model.specs.declared.Tick.{Tick}
-use Rattle.records.specs.Moves.{movesIn, movedThreads}
+use Rattle.record_moves.specs.Moves.{movesIn, movedThreads}
 use Rattle.threads.specs.Slice.{threadsIn, Front, tidAt, MovesFit}
 use Rattle.threads.proofs.Applying.{movedBy, length-moved, front-moved}
 use Rattle.updates.proofs.Updating.{front-same}

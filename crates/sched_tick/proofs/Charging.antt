@@ -31,7 +31,7 @@ use denote.Triple.Walked.{says}
 use Rattle.model.specs.declared.ThreadInfo.{ThreadInfo}
 use Rattle.model.specs.declared.CoreState.{CoreState}
 use Rattle.model.specs.Accounting.{chargeThreads}
-use Rattle.records.specs.Charging.{coresMeant}
+use Rattle.charges.specs.Charging.{coresMeant}
 use Rattle.threads.specs.Slice.{threadsIn, Front, AllChargeable}
 use Rattle.threads.proofs.Slices.{chargedAt, front-charged}
 use Rattle.updates.proofs.Updating.{front-same}

@@ -1,5 +1,2 @@
--- Laws of the definition of the settings.
-pub mod RoundTrip
+-- Laws of the policies' words.
 pub mod Words
-pub mod Settling
-pub mod Laying

@@ -12,21 +12,8 @@ use Rattle.settings.specs.declared.Refusal.the-variants as RefusalCases
 use Rattle.settings.specs.declared.Word as Words
 use Rattle.settings.specs.declared.PolicyFound as PoliciesFound
 use Rattle.settings.specs.declared.PolicyFound.the-variants as PolicyFoundCases
-use Rattle.settings.specs.declared.Ranged as Rangeds
-use Rattle.settings.specs.declared.Ranged.the-variants as RangedCases
-use Rattle.settings.specs.declared.HeadKey as HeadKeys
-use Rattle.settings.specs.declared.HeadKey.the-variants as HeadKeyCases
-use Rattle.settings.specs.declared.Head as Heads
-use Rattle.settings.specs.declared.HeadRead as HeadReads
-use Rattle.settings.specs.declared.HeadRead.the-variants as HeadReadCases
-use Rattle.settings.specs.declared.Settled as Settleds
-use Rattle.settings.specs.declared.Settled.the-variants as SettledCases
-use Rattle.settings.specs.declared.Written as Writtens
-use Rattle.settings.specs.declared.Written.the-variants as WrittenCases
 use Rattle.settings.specs.Policy.{Policy, Off, Fifo, RoundRobin, Priority}
-use Rattle.text.specs.Lines.{Read, bad, good}
-use Rattle.settings.specs.Settings.{Settings, Head, HeadKey, PolicyKey, QuantumKey, CostKey, CoresKey, Settled, unsettled, settled}
-use Rattle.text.specs.Buffers.{Laid}
+use Rattle.settings.specs.Settings.{Settings}
 
 abbrev pub policyMeant : Policies.SchedPolicy → Policy
 policyMeant PolicyCases.Off = Off
@@ -65,30 +52,3 @@ pub record Spells (w : Words.Word) (t : List ℕ) : Type 0 where
 abbrev pub policyFoundMeant : PoliciesFound.PolicyFound → Option Policy
 policyFoundMeant (PolicyFoundCases.Is p) = some (policyMeant p)
 policyFoundMeant PolicyFoundCases.Unknown = none
-
-abbrev pub rangedMeant : Rangeds.Ranged → Read ℕ
-rangedMeant (RangedCases.Is n) = good n
-rangedMeant (RangedCases.Refused k) = bad (refusalNumber k)
-
-abbrev pub keyMeant : HeadKeys.HeadKey → Option HeadKey
-keyMeant HeadKeyCases.Policy = some PolicyKey
-keyMeant HeadKeyCases.Quantum = some QuantumKey
-keyMeant HeadKeyCases.SwitchCost = some CostKey
-keyMeant HeadKeyCases.Cores = some CoresKey
-keyMeant HeadKeyCases.Unknown = none
-
-abbrev pub headMeant : Heads.Head → Head
-headMeant h = record { settings = settingsMeant (h .config); past = h .past }
-
-abbrev pub headReadMeant : HeadReads.HeadRead → Read Head
-headReadMeant (HeadReadCases.Head h) = good (headMeant h)
-headReadMeant (HeadReadCases.Refused k) = bad (refusalNumber k)
-
-abbrev pub settledMeant : Settleds.Settled → Settled
-settledMeant (SettledCases.Config c) = settled (settingsMeant c)
-settledMeant (SettledCases.Refused n k) = unsettled n (refusalNumber k)
-
--- with the buffer as it was left
-abbrev pub laidMeant : Writtens.Written → List ℕ → Laid
-laidMeant (WrittenCases.Count n) b = record { refusal = none; count = n; buffer = b }
-laidMeant (WrittenCases.Refused k) b = record { refusal = some (refusalNumber k); count = 0; buffer = b }

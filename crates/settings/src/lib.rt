@@ -1,12 +1,10 @@
-// The settings: policies, their words, the three settings with their limits, and their text.
+// The settings: policies, their words, the three settings with their limits, and the numbers of all refusals.
 ghost use mathlib.Core.Path.{_≡_};
 ghost use Rattle.settings.specs.Settings.{defaults};
 ghost use Rattle.settings.specs.Reading.{settingsMeant, refusalNumber};
 
 pub mod numbers;
 pub mod policy;
-pub mod reading;
-pub mod writing;
 
 // How the threads share the cores.
 pub enum SchedPolicy {
@@ -103,43 +101,4 @@ pub struct Word {
 pub enum PolicyFound {
     Is(SchedPolicy),
     Unknown,
-}
-
-// A setting's number, or why it is refused.
-pub enum Ranged {
-    Is(u32),
-    Refused(Refusal),
-}
-
-// The keys before the calls of a script; only the first three are settings.
-pub enum HeadKey {
-    Policy,
-    Quantum,
-    SwitchCost,
-    Cores,
-    Unknown,
-}
-
-// What the lines so far have set, and how many of the three keys may no longer come.
-pub struct Head {
-    pub config: SchedConfig,
-    pub past: u32,
-}
-
-// What one more line makes of it.
-pub enum HeadRead {
-    Head(Head),
-    Refused(Refusal),
-}
-
-// What a text of settings says, or its first bad line.
-pub enum Settled {
-    Config(SchedConfig),
-    Refused { line: u64, refusal: Refusal },
-}
-
-// How many bytes were written, or why none.
-pub enum Written {
-    Count(usize),
-    Refused(Refusal),
 }

@@ -2,14 +2,14 @@
 // byte 10, and then its bytes. What each case reads as is printed, and settings are written, refused a short buffer and read back.
 use libc::STDIN_FILENO;
 use libc::STDOUT_FILENO;
+use rcfg::Settled;
+use rcfg::Written;
+use rcfg::reading::from_rcfg;
+use rcfg::writing::to_rcfg;
+use rcfg::writing::write_and_read;
 use settings::Refusal;
 use settings::SchedConfig;
 use settings::SchedPolicy;
-use settings::Settled;
-use settings::Written;
-use settings::reading::from_rcfg;
-use settings::writing::to_rcfg;
-use settings::writing::write_and_read;
 use text::Number;
 use text::lines::piece_end;
 use text::numbers::read_number;

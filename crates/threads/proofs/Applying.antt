@@ -15,7 +15,7 @@ use Rattle.model.specs.Types.{LeaveReason, Exit, Block, Yield, Quantum, Preempt
 use Rattle.model.specs.Phases
 use Rattle.model.specs.Accounting.{addCounts, started, recordLeave, recordDispatch, left}
 use Rattle.model.specs.Reading.{threadMeant}
-use Rattle.records.specs.Moves.{decode, movesIn, moveTid, movedThread, movedThreads, MoveRoom}
+use Rattle.record_moves.specs.Moves.{decode, movesIn, moveTid, movedThread, movedThreads, MoveRoom}
 use Rattle.threads.specs.Slice.{blank, threadsIn, Front, tidAt, MovesFit}
 use Rattle.threads.proofs.Slices.{changedBy, is-changed, changed-meant, front-set, length-update}
 

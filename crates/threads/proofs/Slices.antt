@@ -14,7 +14,7 @@ use Rattle.model.specs.Types.{Core, ThreadRecord}
 use Rattle.model.specs.Phases
 use Rattle.model.specs.Reading.{threadMeant}
 use Rattle.model.specs.Accounting.{chargeThreads}
-use Rattle.records.specs.Charging.{coresMeant, chargeThread}
+use Rattle.charges.specs.Charging.{coresMeant, chargeThread}
 use Rattle.walkkit.specs.Firsts.{firsts}
 use Rattle.walkkit.proofs.Firsts.{drop-firsts}
 use Rattle.threads.specs.Slice.{blank, threadsIn, Front}

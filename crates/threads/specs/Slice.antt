@@ -14,8 +14,8 @@ use Rattle.model.specs.Phases
 use Rattle.model.specs.Accounting.{setState}
 use Rattle.model.specs.Calls.{waiters}
 use Rattle.model.specs.Reading.{threadMeant}
-use Rattle.records.specs.Charging.{Chargeable}
-use Rattle.records.specs.Moves.{decode, moveTid, MoveRoom}
+use Rattle.charges.specs.Charging.{Chargeable}
+use Rattle.record_moves.specs.Moves.{decode, moveTid, MoveRoom}
 use Rattle.records.specs.Waking.{Pushed}
 
 -- the record that stands past the end of a list

@@ -1,13 +1,13 @@
 // The thread records, a lent slice in thread order. These few functions apply in place what `records` has by value, and read no field of a
 // record themselves: each is proved by hand.
+use charges::charge;
 use model::CoreState;
 use model::ThreadInfo;
 use model::Tick;
 use model::Tid;
+use record_moves::moves;
 use records::change;
 use records::change::Change;
-use records::charge;
-use records::moves;
 use records::read;
 use records::totals;
 use records::totals::Totals;
@@ -17,8 +17,8 @@ ghost use lib.ListN.{length, getD, set};
 ghost use Rattle.model.specs.Reading.{threadMeant};
 ghost use Rattle.model.specs.Accounting.{chargeThreads};
 ghost use Rattle.model.specs.Phases;
-ghost use Rattle.records.specs.Charging.{coresMeant};
-ghost use Rattle.records.specs.Moves.{movesIn, movedThreads};
+ghost use Rattle.charges.specs.Charging.{coresMeant};
+ghost use Rattle.record_moves.specs.Moves.{movesIn, movedThreads};
 ghost use Rattle.records.specs.Totals.{totalsOf, TotalsFit};
 ghost use Rattle.records.specs.Changes.{changeMeant, Fits};
 ghost use Rattle.threads.specs.Slice.{blank, threadsIn, Front, AllChargeable, tidAt, MovesFit, WakeFit, Woken, prioritiesIn, Filled};

@@ -73,7 +73,7 @@ written s now ms ls b w h l ok ev ta sw =
     }
 
 -- the moves stand in the front of the lanes
-moves-front : (b r : List ℕ) (n : ℕ) → n ≤ length b → movesIn b n ≡ movesIn (b ++ r) n
+pub moves-front : (b r : List ℕ) (n : ℕ) → n ≤ length b → movesIn b n ≡ movesIn (b ++ r) n
 unfolding movesIn
 moves-front b r n l = sym (ap (map decode) (take-append-le n b r l))
 

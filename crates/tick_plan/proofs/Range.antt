@@ -14,7 +14,7 @@ use Rattle.model.proofs.PhaseLaws.{All, all-update, At}
 use Rattle.model.proofs.Preempt.{AllN, AllO, urgent-in, Stands, IsRun, leastUrgent-stands}
 use Rattle.model.proofs.ThreadStates.{States, snoc-all, without-all, next-in, map-all, statesOf, Each, Loose, OKAt, CellOK, CellsOK}
 use Rattle.model.proofs.Placement.{Placed, statesOf-range}
-use Rattle.records.specs.Moves.{moveTid}
+use Rattle.record_moves.specs.Moves.{moveTid}
 
 -- threads below N
 abbrev pub In : ℕ → CoreState → Type 0

@@ -21,9 +21,9 @@ use Rattle.model.proofs.PhaseLaws.{All}
 use Rattle.model.proofs.Bounded.{AllL, CoreStateIn, takesIn}
 use Rattle.queue.specs.Words.{decode, movesIn}
 use Rattle.turns.specs.Turns.{Short}
-use Rattle.records.specs.Moves.{moveTid, movedThread, movedThreads}
-use Rattle.records.specs.Charging.{coresMeant}
-use Rattle.records.proofs.Charging.{charge-cores}
+use Rattle.record_moves.specs.Moves.{moveTid, movedThread, movedThreads}
+use Rattle.charges.specs.Charging.{coresMeant}
+use Rattle.charges.proofs.Charging.{charge-cores}
 use Rattle.threads.specs.Slice.{threadsIn, Front, tidAt}
 use Rattle.state.specs.declared.Eight.{Eight}
 use Rattle.state.specs.State.{firsts, coreFrom, statesOf, laneWords}
@@ -49,7 +49,7 @@ module _ {A : Type 0} where
   firsts-all-same f a zero e = refl
   firsts-all-same f a (suc k) e = rw (firsts-all-same f a k e, e k) (replicate-append-replicate k 1 a ∙ ap (λ (n : ℕ). replicate n a) (add-one k))
 
-map-firsts : {A B : Type 0} (h : A → B) (g : ℕ → A) (n : ℕ) → map h (firsts g n) ≡ firsts (λ i. h (g i)) n
+pub map-firsts : {A B : Type 0} (h : A → B) (g : ℕ → A) (n : ℕ) → map h (firsts g n) ≡ firsts (λ i. h (g i)) n
 unfolding firsts
 map-firsts h g zero = refl
 map-firsts h g (suc n) = map-append h (firsts g n) (g n ∷ []) ∙ ap (λ (l : List _). l ++ (h (g n) ∷ [])) (map-firsts h g n)

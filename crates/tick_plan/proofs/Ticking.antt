@@ -27,9 +27,9 @@ use Rattle.model.proofs.Bounded.{AllL, all-at, ThreadIn, charged-in, CoreStateI
 use Rattle.queue.specs.Words.{movesIn}
 use Rattle.turns.specs.Turns.{rulesOf}
 use Rattle.phases.specs.Cores.{passOf, observed}
-use Rattle.records.specs.Charging.{coresMeant, Chargeable}
-use Rattle.records.specs.Moves.{movedThreads, MoveRoom}
-use Rattle.records.proofs.Moving.{moved-threads}
+use Rattle.charges.specs.Charging.{coresMeant, Chargeable}
+use Rattle.record_moves.specs.Moves.{movedThreads, MoveRoom}
+use Rattle.record_moves.proofs.Moving.{moved-threads}
 use Rattle.threads.specs.Slice.{blank, threadsIn, Front, AllChargeable, tidAt, MovesFit}
 use Rattle.threads.proofs.Slices.{thread-at, length-threads}
 use Rattle.state.specs.declared.Sched.{Sched}
@@ -67,6 +67,17 @@ module _ (s : Sched) (ts : List ThreadInfo) (qs ps ls ws : List ℕ) (v : Valid 
 
   records-long : s .threads ≤ length ts
   records-long = omega (arith, v .sizes .inUse, v .sizes .threads)
+
+  -- the rules, with the priorities of the lent words
+  pub rules-same : rules M ≡ rulesOf (s .config .policy) (s .config .quantum) (s .config .«switch_cost») (take (s .threads) ps)
+  unfolding rules meant
+  rules-same =
+      λ i. record {
+        policy = rules M .policy;
+        quantum = s .config .quantum;
+        cost = s .config .«switch_cost»;
+        prio = fun-ext {f = λ (t : ℕ). priorityOf 0 (getElem? (M .accounts .threads) t)} {g = λ (t : ℕ). getD (take (s .threads) ps) t 0} (λ t. priority-at (M .accounts .threads) t ∙ ap (λ (l : List ℕ). getD l t 0) (sym (v .priorities))) i;
+      }
 
   -- what charging the records asks
   pub charge-all-fits : (tickThreads s ≤ length ts) × AllChargeable (tickThreads s) ts
@@ -152,17 +163,6 @@ module _ (s : Sched) (ts : List ThreadInfo) (qs ps ls ws : List ℕ) (v : Valid 
     pub switches-fit : (ws₂ : List ℕ) (count now : ℕ) (ls' : List ℕ) (w : Written) → count ≤ 80 → WriteFits s ls ws₂ count now → WrittenOf s now (movesIn ws₂ count) ls ls' w → s .«context_switches» + w .takes < 2 ^ 64
     unfolding meant
     switches-fit ws₂ count now ls' w l f g = omega (arith, few-takes ws₂ count (f .within), g .takes, switches-figure M (v .bounded))
-
-    -- the rules, with the priorities of the lent words
-    rules-same : rules M ≡ rulesOf (s .config .policy) (s .config .quantum) (s .config .«switch_cost») (take (s .threads) ps)
-    unfolding rules meant
-    rules-same =
-        λ i. record {
-          policy = rules M .policy;
-          quantum = s .config .quantum;
-          cost = s .config .«switch_cost»;
-          prio = fun-ext {f = λ (t : ℕ). priorityOf 0 (getElem? (M .accounts .threads) t)} {g = λ (t : ℕ). getD (take (s .threads) ps) t 0} (λ t. priority-at (M .accounts .threads) t ∙ ap (λ (l : List ℕ). getD l t 0) (sym (v .priorities))) i;
-        }
 
     module _ (t : Tick) (c : Charged) (p : Planned) (w : Written) (qs' ls' ws₁ ws' : List ℕ)
         (et : t .0 ≡ s .now .0 + 1) (C : ChargedOf s ws ws₁ c) (P : PlannedOf s qs qs' ps ws₁ ws' p) (R : WrittenOf s (s .now .0 + 1) (movesIn ws' (p .moves)) ls ls' w) where

@@ -19,8 +19,8 @@ use Rattle.phases.specs.Cores.{observed}
 use Rattle.rings.specs.Ring.{RingOK}
 use Rattle.rings.specs.Events.{eventsIn}
 use Rattle.ticks.specs.Room.{TicksRoom}
-use Rattle.records.specs.Charging.{coresMeant}
-use Rattle.records.specs.Moves.{movedThreads}
+use Rattle.charges.specs.Charging.{coresMeant}
+use Rattle.record_moves.specs.Moves.{movedThreads}
 use Rattle.threads.specs.Slice.{threadsIn, Front, tidAt, MovesFit}
 use Rattle.state.specs.declared.Sched.{Sched}
 use Rattle.state.specs.State.{firsts, coreFrom, statesOf, noTicks, noPos, moveRoom, laneStart, laneWords, logWords}

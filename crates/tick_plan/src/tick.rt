@@ -77,7 +77,7 @@ pub fn ticked(d: Decided) -> Ticked
 }
 
 // "Charging a tick": the cores' counters and timelines.
-fn charge(s: Sched, lanes: &mut [u64]) -> Charged
+pub fn charge(s: Sched, lanes: &mut [u64]) -> Charged
     requires { ⌜ ChargeFits s (now lanes) ⌝ }
     ensures { λ r. ⌜ ChargedOf s (now (lanes .entry)) (now (lanes .exit)) r ⌝ }
 {
@@ -92,7 +92,8 @@ fn charge(s: Sched, lanes: &mut [u64]) -> Charged
     Charged { ticks, lanes }
 }
 
-fn planned(
+// What was decided, as one value.
+pub fn planned(
     next: [CoreState; 8],
     exits: [bool; 8],
     blocks: [bool; 8],

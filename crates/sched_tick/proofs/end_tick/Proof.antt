@@ -42,7 +42,7 @@ use Rattle.model.specs.declared.ThreadInfo.{ThreadInfo}
 use Rattle.model.specs.declared.CoreState.{CoreState}
 use Rattle.model.specs.declared.Tick.{Tick}
 use Rattle.model.specs.Accounting.{chargeThreads}
-use Rattle.records.specs.Charging.{coresMeant}
+use Rattle.charges.specs.Charging.{coresMeant}
 use Rattle.threads.specs.Slice.{threadsIn, Front, MovesFit}
 use Rattle.state.specs.declared.Sched.{Sched}
 use Rattle.state.specs.State.{statesOf, Valid}

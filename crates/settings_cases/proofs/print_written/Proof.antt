@@ -1,9 +1,10 @@
 use borrow.Author.Needs.{needs}
 use mathlib.Core.Path.{sym, ap, _∙_}
 use lib.Seq.{length-take-le}
-use Rattle.settings.specs.declared.Written.{Written}
-use Rattle.settings.specs.Reading.{settingsMeant, laidMeant}
-use Rattle.settings.proofs.Laying.{count-within}
+use Rattle.rcfg.specs.declared.Written.{Written}
+use Rattle.settings.specs.Reading.{settingsMeant}
+use Rattle.rcfg.specs.Reading.{laidMeant}
+use Rattle.rcfg.proofs.Laying.{count-within}
 use Rattle.settings_cases.proofs.print_written.Statement.{statement}
 use Rattle.settings_cases.proofs.print_written.Tie as tie
 

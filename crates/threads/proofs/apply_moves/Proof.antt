@@ -47,7 +47,7 @@ use denote.Exit.{yes}
 use Rattle.model.specs.declared.ThreadInfo.{ThreadInfo}
 use Rattle.model.specs.declared.Tick.{Tick}
 use Rattle.model.specs.Reading.{threadMeant}
-use Rattle.records.specs.Moves.{decode, moveTid, movedThread, MoveRoom}
+use Rattle.record_moves.specs.Moves.{decode, moveTid, movedThread, MoveRoom}
 use Rattle.threads.specs.Slice.{blank, tidAt, MovesFit}
 use Rattle.walkkit.proofs.Count.{whiles}
 use Rattle.walkkit.proofs.Lent.{Gives, calls-by, call-value, free-cell, free-room}
@@ -56,14 +56,14 @@ use Rattle.model.proofs.ThreadInfo as T
 use Rattle.model.proofs.ThreadInfo.Laws as T′
 use Rattle.model.proofs.Tick as N
 use Rattle.model.proofs.Tick.Laws as N′
-use Rattle.records.proofs.moves.move_tid as g
-use Rattle.records.proofs.moves.move_tid.Symbol as g-def
-use Rattle.records.proofs.moves.move_tid.Symbol.{name as #records·moves·move-tid}
-use Rattle.records.proofs.moves.move_tid.Met as g-thm
-use Rattle.records.proofs.moves.applied as h
-use Rattle.records.proofs.moves.applied.Symbol as h-def
-use Rattle.records.proofs.moves.applied.Symbol.{name as #records·moves·applied}
-use Rattle.records.proofs.moves.applied.Met as h-thm
+use Rattle.record_moves.proofs.moves.move_tid as g
+use Rattle.record_moves.proofs.moves.move_tid.Symbol as g-def
+use Rattle.record_moves.proofs.moves.move_tid.Symbol.{name as #record-moves·moves·move-tid}
+use Rattle.record_moves.proofs.moves.move_tid.Met as g-thm
+use Rattle.record_moves.proofs.moves.applied as h
+use Rattle.record_moves.proofs.moves.applied.Symbol as h-def
+use Rattle.record_moves.proofs.moves.applied.Symbol.{name as #record-moves·moves·applied}
+use Rattle.record_moves.proofs.moves.applied.Met as h-thm
 use Rattle.threads.proofs.Applying.{movedOnce, movedBy, moved-zero, moved-next, length-moved, is-once, front-moved, turn-room}
 use Rattle.threads.proofs.apply_moves.Key.{name as #threads·apply-moves}
 use Rattle.threads.proofs.apply_moves as f
@@ -99,16 +99,16 @@ abbrev Made : ThreadInfo → ℕ → Tick → Val → ThreadInfo → Type 0
 Made t x tick w r = (threadMeant r ≡ movedThread (tick .0) (decode x) (threadMeant t)) × Is T.the-row r (w ∷ [])
 
 module _ {M : Type 1} (𝓤 : URA M) (H : Heap 𝓤) (A : Atoms 𝓤) (W : Given 𝓤 H A) (mem : Memory → SProp 𝓤) (run : Routine → Fun 𝓤) (C : Calls 𝓤 H) (fm : FmC 𝓤 H (W .laws) C) where
-  tid-call : Triple 𝓤 (C #records·moves·move-tid) (MoveTid 𝓤 H A mem run) → (x : ℕ) → x < 2 ^ 64
-      → ent 𝓤 (mean 𝓤 H A (‵ ftrue)) (H .⇛ (C #records·moves·move-tid (vint w64 x ∷ []) (λ w. mean 𝓤 H A (Gives 𝓤 ℕ (Named x) (‵ ftrue) w))))
+  tid-call : Triple 𝓤 (C #record-moves·moves·move-tid) (MoveTid 𝓤 H A mem run) → (x : ℕ) → x < 2 ^ 64
+      → ent 𝓤 (mean 𝓤 H A (‵ ftrue)) (H .⇛ (C #record-moves·moves·move-tid (vint w64 x ∷ []) (λ w. mean 𝓤 H A (Gives 𝓤 ℕ (Named x) (‵ ftrue) w))))
   tid-call met x gx =
-      call-value 𝓤 H A W C fm #records·moves·move-tid (MoveTid 𝓤 H A mem run) met (vint w64 x ∷ []) ((tt, tt, tt, (x, tt), (vint w64 x ∷ [], tt)), tt) refl usize (λ r. r ≡ moveTid (decode x)) (lasts g.ended tt (x, tt))
+      call-value 𝓤 H A W C fm #record-moves·moves·move-tid (MoveTid 𝓤 H A mem run) met (vint w64 x ∷ []) ((tt, tt, tt, (x, tt), (vint w64 x ∷ [], tt)), tt) refl usize (λ r. r ≡ moveTid (decode x)) (lasts g.ended tt (x, tt))
       (qed W [] ∵ nothing ! $ owned ! u64 (Is u64) (uint-makes 𝓤 H A W w64) x _ (refl, gx) $ fjoin ! $ nothing ! $ join ! $ frame ! $ done !) (λ w. id⊢ 𝓤 _)
 
-  applied-call : Triple 𝓤 (C #records·moves·applied) (Applied 𝓤 H A mem run) → (t : ThreadInfo) (x : ℕ) (tick : Tick) → MoveRoom 1 (threadMeant t) → Is T.the-row t (mach t ∷ []) → x < 2 ^ 64 → Is N.the-row tick (nmach tick ∷ [])
-      → ent 𝓤 (mean 𝓤 H A (‵ ftrue)) (H .⇛ (C #records·moves·applied (mach t ∷ vint w64 x ∷ nmach tick ∷ []) (λ w. mean 𝓤 H A (Gives 𝓤 ThreadInfo (Made t x tick) (‵ ftrue) w))))
+  applied-call : Triple 𝓤 (C #record-moves·moves·applied) (Applied 𝓤 H A mem run) → (t : ThreadInfo) (x : ℕ) (tick : Tick) → MoveRoom 1 (threadMeant t) → Is T.the-row t (mach t ∷ []) → x < 2 ^ 64 → Is N.the-row tick (nmach tick ∷ [])
+      → ent 𝓤 (mean 𝓤 H A (‵ ftrue)) (H .⇛ (C #record-moves·moves·applied (mach t ∷ vint w64 x ∷ nmach tick ∷ []) (λ w. mean 𝓤 H A (Gives 𝓤 ThreadInfo (Made t x tick) (‵ ftrue) w))))
   applied-call met t x tick ok gt gx gn =
-      call-value 𝓤 H A W C fm #records·moves·applied (Applied 𝓤 H A mem run) met (mach t ∷ vint w64 x ∷ nmach tick ∷ []) ((tt, tt, tt, (t, (x, (tick, tt))), (mach t ∷ [], (vint w64 x ∷ [], (nmach tick ∷ [], tt)))), tt) refl T.the-row (λ r. threadMeant r ≡ movedThread (tick .0) (decode x) (threadMeant t)) (lasts h.ended tt (t, (x, (tick, tt))))
+      call-value 𝓤 H A W C fm #record-moves·moves·applied (Applied 𝓤 H A mem run) met (mach t ∷ vint w64 x ∷ nmach tick ∷ []) ((tt, tt, tt, (t, (x, (tick, tt))), (mach t ∷ [], (vint w64 x ∷ [], (nmach tick ∷ [], tt)))), tt) refl T.the-row (λ r. threadMeant r ≡ movedThread (tick .0) (decode x) (threadMeant t)) (lasts h.ended tt (t, (x, (tick, tt))))
       (qed W [] ∵ says ! ok $ nothing ! $ owned ! N.the-row (Is N.the-row) (LL.makes N.the-type N′.the-plain 𝓤 H A) tick _ gn $ fjoin ! $ owned ! u64 (Is u64) (uint-makes 𝓤 H A W w64) x _ (refl, gx) $ fjoin ! $
       owned ! T.the-row (Is T.the-row) (LL.makes T.the-type T′.the-plain 𝓤 H A) t _ gt $ fjoin ! $ nothing ! $ done !) (λ w. id⊢ 𝓤 _)
 
@@ -222,7 +222,7 @@ module _ {M : Type 1} (𝓤 : URA M) (H : Heap 𝓤) (A : Atoms 𝓤) (W : Given
     abbrev Tested : ℕ → List (Item 𝓤)
     Tested k = At k (‵ (fat fullShare tyBool l₈ 0 (vbool (ltb k count))))
 
-  walk : (𝓣 : Tables 𝓤 H) → Triple 𝓤 (𝓣 .C #records·moves·move-tid) (MoveTid 𝓤 H A mem run) → Triple 𝓤 (𝓣 .C #records·moves·applied) (Applied 𝓤 H A mem run) → Room T.the-row (length ys) → Room u64 (length ms) → count < 2 ^ 64 → Is N.the-row tick (nmach tick ∷ []) → MovesFit ys ms count
+  walk : (𝓣 : Tables 𝓤 H) → Triple 𝓤 (𝓣 .C #record-moves·moves·move-tid) (MoveTid 𝓤 H A mem run) → Triple 𝓤 (𝓣 .C #record-moves·moves·applied) (Applied 𝓤 H A mem run) → Room T.the-row (length ys) → Room u64 (length ms) → count < 2 ^ 64 → Is N.the-row tick (nmach tick ∷ []) → MovesFit ys ms count
       → ent 𝓤 (onEntry 𝓤 H A f.signature (κ, (κ′, tt)) (q, (q′, tt)) a vals) (WpFn 𝓤 H (𝓣 .C) (𝓣 .Λ) code.function (s ∷ s′ ∷ vint w64 count ∷ nmach tick ∷ []) Post)
   unfolding afterTurn
   walk 𝓣 known-tid known room room′ gc gt fit =
@@ -282,13 +282,13 @@ module _ {M : Type 1} (𝓤 : URA M) (H : Heap 𝓤) (A : Atoms 𝓤) (W : Given
       by ! (exits fit room))))))))))))))))))))
 
 module _ {M : Type 1} (𝓤 : URA M) (H : Heap 𝓤) (A : Atoms 𝓤) (W : Given 𝓤 H A) (mem : Memory → SProp 𝓤) (run : Routine → Fun 𝓤) where
-  f-walks : (𝓣 : Tables 𝓤 H) → Triple 𝓤 (𝓣 .C #records·moves·move-tid) (MoveTid 𝓤 H A mem run) → Triple 𝓤 (𝓣 .C #records·moves·applied) (Applied 𝓤 H A mem run) → Walks 𝓤 H A f.ended stayed (WpFn 𝓤 H (𝓣 .C) (𝓣 .Λ) code.function) (f.clauses 𝓤 H A mem run)
+  f-walks : (𝓣 : Tables 𝓤 H) → Triple 𝓤 (𝓣 .C #record-moves·moves·move-tid) (MoveTid 𝓤 H A mem run) → Triple 𝓤 (𝓣 .C #record-moves·moves·applied) (Applied 𝓤 H A mem run) → Walks 𝓤 H A f.ended stayed (WpFn 𝓤 H (𝓣 .C) (𝓣 .Λ) code.function) (f.clauses 𝓤 H A mem run)
   f-walks 𝓣 known-tid known = walked 𝓤 H A f.ended stayed (f.clauses 𝓤 H A mem run) (WpFn 𝓤 H (𝓣 .C) (𝓣 .Λ) code.function)
       (λ κs. (slice-vals, (slice-vals, (uint-vals w64, (LL.vals N.the-type N′.the-laws, tt))))) (λ κs. (mut-slice-tells (named 0) (κs .0) T.the-row, (shr-slice-tells (named 1) (κs .1 .0) u64, (uint-tells w64, (LL.tells N.the-type N′.the-laws, tt)))))
       (λ κs qs bounds a g are. needs 𝓤 (MovesFit (a .0 .now) (a .1 .0 .now) (a .1 .1 .0)) _
       (walk 𝓤 H A W mem run (κs .0) (κs .1 .0) (qs .0) (qs .1 .0) (a .0 .ptr .0) (a .0 .ptr .1) (a .1 .0 .ptr .0) (a .1 .0 .ptr .1) (a .0 .name) (a .1 .0 .name) (a .0 .now) (a .1 .0 .now) (a .1 .1 .0) (a .1 .1 .1 .0) 𝓣 known-tid known (are .0 .0 .1) (are .1 .0 .0 .1) (are .1 .1 .0 .1) (are .1 .1 .1 .0)))
 
-f-meets : {M : Type 1} (𝓤 : URA M) (H : Heap 𝓤) (A : Atoms 𝓤) → Given 𝓤 H A → (mem : Memory → SProp 𝓤) (run : Routine → Fun 𝓤) (𝓣 : Tables 𝓤 H) → Triple 𝓤 (𝓣 .C #records·moves·move-tid) (MoveTid 𝓤 H A mem run) → Triple 𝓤 (𝓣 .C #records·moves·applied) (Applied 𝓤 H A mem run)
+f-meets : {M : Type 1} (𝓤 : URA M) (H : Heap 𝓤) (A : Atoms 𝓤) → Given 𝓤 H A → (mem : Memory → SProp 𝓤) (run : Routine → Fun 𝓤) (𝓣 : Tables 𝓤 H) → Triple 𝓤 (𝓣 .C #record-moves·moves·move-tid) (MoveTid 𝓤 H A mem run) → Triple 𝓤 (𝓣 .C #record-moves·moves·applied) (Applied 𝓤 H A mem run)
     → Meets 𝓤 H A f.signature (WpFn 𝓤 H (𝓣 .C) (𝓣 .Λ) code.function) (f.spec 𝓤 H A mem run)
 f-meets 𝓤 H A W mem run 𝓣 known-tid known =
     walk-meets 𝓤 H A f.ended stayed W (goes-slice 𝓤 H A W 2 0 tt (plain (λ _. T.the-row)), (goes-dropped 𝓤 H A W 2 MsS yes (λ κs x f. refl), (goes-dropped 𝓤 H A W 2 (plain (λ _. usize)) yes (λ κs x f. refl), (goes-dropped 𝓤 H A W 2 (plain (λ _. N.the-row)) yes (λ κs x f. refl), tt)))) (f.clauses 𝓤 H A mem run)
@@ -300,5 +300,5 @@ apply-moves-spec 𝓤 H 𝓜 𝓖 𝓡 =
     entered 𝓤 H (tripleOf 𝓤 H (𝓖 .A) f.signature (f.spec 𝓤 H (𝓖 .A) (𝓜 .mem) (𝓡 .run)))
     (tables 𝓤 H 𝓜 𝓡 code.env .C) (tables 𝓤 H 𝓜 𝓡 code.env .Λ) #threads·apply-moves code.function (code.unfolded 𝓤 H 𝓜 𝓡)
     (f-meets 𝓤 H (𝓖 .A) (givenOf 𝓤 H 𝓜 𝓖) (𝓜 .mem) (𝓡 .run) (tablesOf 𝓤 H 𝓜 (tables 𝓤 H 𝓜 𝓡 code.env))
-    (cited 𝓤 H (MoveTid 𝓤 H (𝓖 .A) (𝓜 .mem) (𝓡 .run)) 𝓜 𝓡 code.env #records·moves·move-tid g-def.routine code.calls-records·moves·move-tid (g-thm.met 𝓤 H 𝓜 𝓖 𝓡))
-    (cited 𝓤 H (Applied 𝓤 H (𝓖 .A) (𝓜 .mem) (𝓡 .run)) 𝓜 𝓡 code.env #records·moves·applied h-def.routine code.calls-records·moves·applied (h-thm.met 𝓤 H 𝓜 𝓖 𝓡)))
+    (cited 𝓤 H (MoveTid 𝓤 H (𝓖 .A) (𝓜 .mem) (𝓡 .run)) 𝓜 𝓡 code.env #record-moves·moves·move-tid g-def.routine code.calls-record-moves·moves·move-tid (g-thm.met 𝓤 H 𝓜 𝓖 𝓡))
+    (cited 𝓤 H (Applied 𝓤 H (𝓖 .A) (𝓜 .mem) (𝓡 .run)) 𝓜 𝓡 code.env #record-moves·moves·applied h-def.routine code.calls-record-moves·moves·applied (h-thm.met 𝓤 H 𝓜 𝓖 𝓡)))

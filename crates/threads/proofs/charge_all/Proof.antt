@@ -49,8 +49,8 @@ use denote.Exit.{yes}
 use Rattle.model.specs.declared.ThreadInfo.{ThreadInfo}
 use Rattle.model.specs.declared.CoreState.{CoreState}
 use Rattle.model.specs.Reading.{threadMeant}
-use Rattle.records.specs.declared.charge.CoreThreads.{CoreThreads}
-use Rattle.records.specs.Charging.{Chargeable, coreThreadsOf, coresMeant, chargeThread}
+use Rattle.charges.specs.declared.charge.CoreThreads.{CoreThreads}
+use Rattle.charges.specs.Charging.{Chargeable, coreThreadsOf, coresMeant, chargeThread}
 use Rattle.threads.specs.Slice.{blank, AllChargeable}
 use Rattle.walkkit.specs.Firsts.{firsts}
 use Rattle.walkkit.proofs.Count.{whiles}
@@ -61,16 +61,16 @@ use Rattle.model.proofs.ThreadInfo as T
 use Rattle.model.proofs.ThreadInfo.Laws as T′
 use Rattle.model.proofs.CoreState as K
 use Rattle.model.proofs.CoreState.Laws as K′
-use Rattle.records.proofs.charge.CoreThreads as O
-use Rattle.records.proofs.charge.CoreThreads.Laws as O′
-use Rattle.records.proofs.charge.charged as g
-use Rattle.records.proofs.charge.charged.Symbol as g-def
-use Rattle.records.proofs.charge.charged.Symbol.{name as #records·charge·charged}
-use Rattle.records.proofs.charge.charged.Met as g-thm
-use Rattle.records.proofs.charge.core_threads as h
-use Rattle.records.proofs.charge.core_threads.Symbol as h-def
-use Rattle.records.proofs.charge.core_threads.Symbol.{name as #records·charge·core-threads}
-use Rattle.records.proofs.charge.core_threads.Met as h-thm
+use Rattle.charges.proofs.charge.CoreThreads as O
+use Rattle.charges.proofs.charge.CoreThreads.Laws as O′
+use Rattle.charges.proofs.charge.charged as g
+use Rattle.charges.proofs.charge.charged.Symbol as g-def
+use Rattle.charges.proofs.charge.charged.Symbol.{name as #charges·charge·charged}
+use Rattle.charges.proofs.charge.charged.Met as g-thm
+use Rattle.charges.proofs.charge.core_threads as h
+use Rattle.charges.proofs.charge.core_threads.Symbol as h-def
+use Rattle.charges.proofs.charge.core_threads.Symbol.{name as #charges·charge·core-threads}
+use Rattle.charges.proofs.charge.core_threads.Met as h-thm
 use Rattle.threads.proofs.Slices.{chargedAt, is-charged, front-charged}
 use Rattle.threads.proofs.charge_all.Key.{name as #threads·charge-all}
 use Rattle.threads.proofs.charge_all as f
@@ -116,17 +116,17 @@ abbrev Found : List CoreState → Val → CoreThreads → Type 0
 Found cs w r = (r ≡ coreThreadsOf cs) × Is O.the-row r (w ∷ [])
 
 module _ {M : Type 1} (𝓤 : URA M) (H : Heap 𝓤) (A : Atoms 𝓤) (W : Given 𝓤 H A) (mem : Memory → SProp 𝓤) (run : Routine → Fun 𝓤) (C : Calls 𝓤 H) (fm : FmC 𝓤 H (W .laws) C) where
-  charged-call : Triple 𝓤 (C #records·charge·charged) (Charged 𝓤 H A mem run) → (t : ThreadInfo) (i : ℕ) (on : CoreThreads) → Chargeable i (threadMeant t) → Is T.the-row t (mach t ∷ []) → i < 2 ^ 64 → Is O.the-row on (omach on ∷ [])
-      → ent 𝓤 (mean 𝓤 H A (‵ ftrue)) (H .⇛ (C #records·charge·charged (mach t ∷ vint w64 i ∷ omach on ∷ []) (λ w. mean 𝓤 H A (Gives 𝓤 ThreadInfo (Made t i on) (‵ ftrue) w))))
+  charged-call : Triple 𝓤 (C #charges·charge·charged) (Charged 𝓤 H A mem run) → (t : ThreadInfo) (i : ℕ) (on : CoreThreads) → Chargeable i (threadMeant t) → Is T.the-row t (mach t ∷ []) → i < 2 ^ 64 → Is O.the-row on (omach on ∷ [])
+      → ent 𝓤 (mean 𝓤 H A (‵ ftrue)) (H .⇛ (C #charges·charge·charged (mach t ∷ vint w64 i ∷ omach on ∷ []) (λ w. mean 𝓤 H A (Gives 𝓤 ThreadInfo (Made t i on) (‵ ftrue) w))))
   charged-call met t i on ok gt gi go =
-      call-value 𝓤 H A W C fm #records·charge·charged (Charged 𝓤 H A mem run) met (mach t ∷ vint w64 i ∷ omach on ∷ []) ((tt, tt, tt, (t, (i, (on, tt))), (mach t ∷ [], (vint w64 i ∷ [], (omach on ∷ [], tt)))), tt) refl T.the-row (Charge t i on) (lasts g.ended tt (t, (i, (on, tt))))
+      call-value 𝓤 H A W C fm #charges·charge·charged (Charged 𝓤 H A mem run) met (mach t ∷ vint w64 i ∷ omach on ∷ []) ((tt, tt, tt, (t, (i, (on, tt))), (mach t ∷ [], (vint w64 i ∷ [], (omach on ∷ [], tt)))), tt) refl T.the-row (Charge t i on) (lasts g.ended tt (t, (i, (on, tt))))
       (qed W [] ∵ says ! ok $ nothing ! $ owned ! O.the-row (Is O.the-row) (LL.makes O.the-type O′.the-plain 𝓤 H A) on _ go $ fjoin ! $ owned ! usize (Is usize) (uint-makes 𝓤 H A W w64) i _ (refl, gi) $ fjoin ! $
       owned ! T.the-row (Is T.the-row) (LL.makes T.the-type T′.the-plain 𝓤 H A) t _ gt $ fjoin ! $ nothing ! $ done !) (λ w. id⊢ 𝓤 _)
 
-  cores-call : Triple 𝓤 (C #records·charge·core-threads) (OnCores 𝓤 H A mem run) → (cs : List CoreState) → Is Cs cs (cmach cs ∷ [])
-      → ent 𝓤 (mean 𝓤 H A (‵ ftrue)) (H .⇛ (C #records·charge·core-threads (cmach cs ∷ []) (λ w. mean 𝓤 H A (Gives 𝓤 CoreThreads (Found cs) (‵ ftrue) w))))
+  cores-call : Triple 𝓤 (C #charges·charge·core-threads) (OnCores 𝓤 H A mem run) → (cs : List CoreState) → Is Cs cs (cmach cs ∷ [])
+      → ent 𝓤 (mean 𝓤 H A (‵ ftrue)) (H .⇛ (C #charges·charge·core-threads (cmach cs ∷ []) (λ w. mean 𝓤 H A (Gives 𝓤 CoreThreads (Found cs) (‵ ftrue) w))))
   cores-call met cs gc =
-      call-value 𝓤 H A W C fm #records·charge·core-threads (OnCores 𝓤 H A mem run) met (cmach cs ∷ []) ((tt, tt, tt, (cs, tt), (cmach cs ∷ [], tt)), tt) refl O.the-row (λ r. r ≡ coreThreadsOf cs) (lasts h.ended tt (cs, tt))
+      call-value 𝓤 H A W C fm #charges·charge·core-threads (OnCores 𝓤 H A mem run) met (cmach cs ∷ []) ((tt, tt, tt, (cs, tt), (cmach cs ∷ [], tt)), tt) refl O.the-row (λ r. r ≡ coreThreadsOf cs) (lasts h.ended tt (cs, tt))
       (qed W [] ∵ nothing ! $ owned ! Cs (Is Cs) (array-makes 𝓤 H A W K.the-row (EL.makes K.the-type K′.the-plain 𝓤 H A) 8) cs _ gc $ fjoin ! $ nothing ! $ join ! $ frame ! $ done !) (λ w. id⊢ 𝓤 _)
 
 module _ {M : Type 1} (𝓤 : URA M) (H : Heap 𝓤) (A : Atoms 𝓤) (W : Given 𝓤 H A) (mem : Memory → SProp 𝓤) (run : Routine → Fun 𝓤) (κ : Lft) (q : Share) (b o : ℕ) (γ : GName) (ys : List ThreadInfo) (n : ℕ) (cs : List CoreState) where
@@ -220,7 +220,7 @@ module _ {M : Type 1} (𝓤 : URA M) (H : Heap 𝓤) (A : Atoms 𝓤) (W : Given
     abbrev Tested : ℕ → List (Item 𝓤)
     Tested i = At i (‵ (fat fullShare tyBool l₆ 0 (vbool (ltb i n))))
 
-  walk : (𝓣 : Tables 𝓤 H) → Triple 𝓤 (𝓣 .C #records·charge·charged) (Charged 𝓤 H A mem run) → Triple 𝓤 (𝓣 .C #records·charge·core-threads) (OnCores 𝓤 H A mem run) → Room T.the-row (length ys) → n < 2 ^ 64 → Is Cs cs (cmach cs ∷ []) → (n ≤ length ys) × AllChargeable n ys
+  walk : (𝓣 : Tables 𝓤 H) → Triple 𝓤 (𝓣 .C #charges·charge·charged) (Charged 𝓤 H A mem run) → Triple 𝓤 (𝓣 .C #charges·charge·core-threads) (OnCores 𝓤 H A mem run) → Room T.the-row (length ys) → n < 2 ^ 64 → Is Cs cs (cmach cs ∷ []) → (n ≤ length ys) × AllChargeable n ys
       → ent 𝓤 (onEntry 𝓤 H A f.signature (κ, tt) (q, tt) a vals) (WpFn 𝓤 H (𝓣 .C) (𝓣 .Λ) code.function (s ∷ vint w64 n ∷ cmach cs ∷ []) Post)
   unfolding afterTurn
   walk 𝓣 known known-on room gn gc pre =
@@ -268,13 +268,13 @@ module _ {M : Type 1} (𝓤 : URA M) (H : Heap 𝓤) (A : Atoms 𝓤) (W : Given
       by ! (exits room))))))))))))))))
 
 module _ {M : Type 1} (𝓤 : URA M) (H : Heap 𝓤) (A : Atoms 𝓤) (W : Given 𝓤 H A) (mem : Memory → SProp 𝓤) (run : Routine → Fun 𝓤) where
-  f-walks : (𝓣 : Tables 𝓤 H) → Triple 𝓤 (𝓣 .C #records·charge·charged) (Charged 𝓤 H A mem run) → Triple 𝓤 (𝓣 .C #records·charge·core-threads) (OnCores 𝓤 H A mem run) → Walks 𝓤 H A f.ended stayed (WpFn 𝓤 H (𝓣 .C) (𝓣 .Λ) code.function) (f.clauses 𝓤 H A mem run)
+  f-walks : (𝓣 : Tables 𝓤 H) → Triple 𝓤 (𝓣 .C #charges·charge·charged) (Charged 𝓤 H A mem run) → Triple 𝓤 (𝓣 .C #charges·charge·core-threads) (OnCores 𝓤 H A mem run) → Walks 𝓤 H A f.ended stayed (WpFn 𝓤 H (𝓣 .C) (𝓣 .Λ) code.function) (f.clauses 𝓤 H A mem run)
   f-walks 𝓣 known known-on = walked 𝓤 H A f.ended stayed (f.clauses 𝓤 H A mem run) (WpFn 𝓤 H (𝓣 .C) (𝓣 .Λ) code.function)
       (λ κs. (slice-vals, (uint-vals w64, (array-vals (EL.vals K.the-type K′.the-laws), tt)))) (λ κs. (mut-slice-tells (named 0) (κs .0) T.the-row, (uint-tells w64, (array-tells K.the-row (EL.vals K.the-type K′.the-laws) (EL.tells K.the-type K′.the-laws) 8, tt))))
       (λ κs qs bounds a g are. needs 𝓤 ((a .1 .0 ≤ length (a .0 .now)) × AllChargeable (a .1 .0) (a .0 .now)) _
       (walk 𝓤 H A W mem run (κs .0) (qs .0) (a .0 .ptr .0) (a .0 .ptr .1) (a .0 .name) (a .0 .now) (a .1 .0) (a .1 .1 .0) 𝓣 known known-on (are .0 .0 .1) (are .1 .0 .1) (are .1 .1 .0)))
 
-f-meets : {M : Type 1} (𝓤 : URA M) (H : Heap 𝓤) (A : Atoms 𝓤) → Given 𝓤 H A → (mem : Memory → SProp 𝓤) (run : Routine → Fun 𝓤) (𝓣 : Tables 𝓤 H) → Triple 𝓤 (𝓣 .C #records·charge·charged) (Charged 𝓤 H A mem run) → Triple 𝓤 (𝓣 .C #records·charge·core-threads) (OnCores 𝓤 H A mem run)
+f-meets : {M : Type 1} (𝓤 : URA M) (H : Heap 𝓤) (A : Atoms 𝓤) → Given 𝓤 H A → (mem : Memory → SProp 𝓤) (run : Routine → Fun 𝓤) (𝓣 : Tables 𝓤 H) → Triple 𝓤 (𝓣 .C #charges·charge·charged) (Charged 𝓤 H A mem run) → Triple 𝓤 (𝓣 .C #charges·charge·core-threads) (OnCores 𝓤 H A mem run)
     → Meets 𝓤 H A f.signature (WpFn 𝓤 H (𝓣 .C) (𝓣 .Λ) code.function) (f.spec 𝓤 H A mem run)
 f-meets 𝓤 H A W mem run 𝓣 known known-on =
     walk-meets 𝓤 H A f.ended stayed W (goes-slice 𝓤 H A W 1 0 tt (plain (λ _. T.the-row)), (goes-dropped 𝓤 H A W 1 (plain (λ _. usize)) yes (λ κs x f. refl), (goes-dropped 𝓤 H A W 1 CsS yes (λ κs x f. refl), tt))) (f.clauses 𝓤 H A mem run)
@@ -286,5 +286,5 @@ charge-all-spec 𝓤 H 𝓜 𝓖 𝓡 =
     entered 𝓤 H (tripleOf 𝓤 H (𝓖 .A) f.signature (f.spec 𝓤 H (𝓖 .A) (𝓜 .mem) (𝓡 .run)))
     (tables 𝓤 H 𝓜 𝓡 code.env .C) (tables 𝓤 H 𝓜 𝓡 code.env .Λ) #threads·charge-all code.function (code.unfolded 𝓤 H 𝓜 𝓡)
     (f-meets 𝓤 H (𝓖 .A) (givenOf 𝓤 H 𝓜 𝓖) (𝓜 .mem) (𝓡 .run) (tablesOf 𝓤 H 𝓜 (tables 𝓤 H 𝓜 𝓡 code.env))
-    (cited 𝓤 H (Charged 𝓤 H (𝓖 .A) (𝓜 .mem) (𝓡 .run)) 𝓜 𝓡 code.env #records·charge·charged g-def.routine code.calls-records·charge·charged (g-thm.met 𝓤 H 𝓜 𝓖 𝓡))
-    (cited 𝓤 H (OnCores 𝓤 H (𝓖 .A) (𝓜 .mem) (𝓡 .run)) 𝓜 𝓡 code.env #records·charge·core-threads h-def.routine code.calls-records·charge·core-threads (h-thm.met 𝓤 H 𝓜 𝓖 𝓡)))
+    (cited 𝓤 H (Charged 𝓤 H (𝓖 .A) (𝓜 .mem) (𝓡 .run)) 𝓜 𝓡 code.env #charges·charge·charged g-def.routine code.calls-charges·charge·charged (g-thm.met 𝓤 H 𝓜 𝓖 𝓡))
+    (cited 𝓤 H (OnCores 𝓤 H (𝓖 .A) (𝓜 .mem) (𝓡 .run)) 𝓜 𝓡 code.env #charges·charge·core-threads h-def.routine code.calls-charges·charge·core-threads (h-thm.met 𝓤 H 𝓜 𝓖 𝓡)))

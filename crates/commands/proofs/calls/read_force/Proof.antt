@@ -4,7 +4,7 @@ use denote.Ref.{now}
 use Rattle.text.specs.Lines.{needed, perhaps}
 use Rattle.model.specs.Calls.{force}
 use Rattle.script.specs.Script.{callOf}
-use Rattle.commands.specs.Reading.{numberMaybeReadMeant}
+use Rattle.fields.specs.Reading.{numberMaybeReadMeant}
 use Rattle.commands.proofs.Saying.{two-bad, two-good}
 use Rattle.commands.proofs.calls.read_force.Statement.{statement}
 use Rattle.commands.proofs.calls.read_force.Tie as tie

@@ -4,7 +4,7 @@ use denote.Ref.{now}
 use Rattle.text.specs.Lines.{needed}
 use Rattle.model.specs.Calls.{priority}
 use Rattle.script.specs.Script.{callOf}
-use Rattle.commands.specs.Reading.{numbersReadMeant}
+use Rattle.fields.specs.Reading.{numbersReadMeant}
 use Rattle.commands.proofs.Saying.{two-bad, two-good}
 use Rattle.commands.proofs.calls.read_prio.Statement.{statement}
 use Rattle.commands.proofs.calls.read_prio.Tie as tie

@@ -4,7 +4,7 @@ use denote.Ref.{now}
 use Rattle.text.specs.Lines.{perhaps}
 use Rattle.model.specs.Calls.{spawn}
 use Rattle.script.specs.Script.{callOf}
-use Rattle.commands.specs.Reading.{maybeReadMeant}
+use Rattle.fields.specs.Reading.{maybeReadMeant}
 use Rattle.commands.proofs.Saying.{one-bad, one-good}
 use Rattle.commands.proofs.calls.read_spawn.Statement.{statement}
 use Rattle.commands.proofs.calls.read_spawn.Tie as tie

@@ -1,8 +1,8 @@
 use borrow.Author.Needs.{needs}
 use mathlib.Core.Path.{sym, ap, _∙_}
 use denote.Ref.{now}
-use Rattle.settings.specs.Reading.{headMeant}
-use Rattle.commands.specs.Reading.{numberReadMeant}
+use Rattle.rcfg.specs.Reading.{headMeant}
+use Rattle.fields.specs.Reading.{numberReadMeant}
 use Rattle.commands.proofs.Saying.{cores-bad, cores-over, cores-good}
 use Rattle.commands.proofs.heading.read_cores.Statement.{statement}
 use Rattle.commands.proofs.heading.read_cores.Tie as tie

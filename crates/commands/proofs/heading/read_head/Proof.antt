@@ -6,7 +6,7 @@ use mathlib.Core.List.{List}
 use denote.Ref.{now}
 use Rattle.text.specs.Lines.{keyIn}
 use Rattle.settings.specs.Settings.{HeadKey, headKeys}
-use Rattle.settings.specs.Reading.{headMeant}
+use Rattle.rcfg.specs.Reading.{headMeant}
 use Rattle.script.specs.Script.{heading, headLine}
 use Rattle.commands.proofs.heading.read_head.Statement.{statement}
 use Rattle.commands.proofs.heading.read_head.Tie as tie

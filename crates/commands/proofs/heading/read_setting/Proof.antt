@@ -2,7 +2,7 @@ use borrow.Author.Needs.{needs}
 use mathlib.Core.Path.{sym, ap, _∙_}
 use Rattle.text.specs.Lines.{Read, mapRead}
 use Rattle.settings.specs.Settings.{Head}
-use Rattle.settings.specs.Reading.{headReadMeant}
+use Rattle.rcfg.specs.Reading.{headReadMeant}
 use Rattle.script.specs.Script.{more}
 use Rattle.commands.proofs.heading.read_setting.Statement.{statement}
 use Rattle.commands.proofs.heading.read_setting.Tie as tie

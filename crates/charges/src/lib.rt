@@ -1,0 +1,2 @@
+// What a tick charges one thread's record, by value.
+pub mod charge;

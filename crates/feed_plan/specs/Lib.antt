@@ -1,0 +1,3 @@
+pub mod Meant
+pub mod Steps
+pub mod Feeding

@@ -1,0 +1,2 @@
+-- Laws of the fields of a value.
+pub mod Commas

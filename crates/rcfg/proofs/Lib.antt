@@ -1,0 +1,4 @@
+-- Laws of the settings' text.
+pub mod RoundTrip
+pub mod Settling
+pub mod Laying

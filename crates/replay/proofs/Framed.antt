@@ -1,0 +1,157 @@
+-- What no call changes: the capacities, the count of cores, and memory behind what these name.
+use Prim.Native.Nat.{ℕ, suc, pred, _+_, _-_, _*_, _≤_, max}
+use native.Mathlib.Omega.{arith}
+use mathlib.Core.Path.{_≡_, refl, sym, ap, subst, _∙_}
+use mathlib.Core.Option.{Option, none, some}
+use mathlib.Core.List.{List, [], _∷_}
+use lib.ListN.{length, drop, getElem?, length-replicate}
+use lib.Seq.{drop-drop}
+use Rattle.settings.specs.declared.SchedConfig.{SchedConfig}
+use Rattle.settings.specs.Reading.{policyMeant}
+use Rattle.model.specs.declared.ThreadInfo.{ThreadInfo}
+use Rattle.model.specs.Types.{Policy, State}
+use Rattle.model.specs.Calls.{Call, spawn, exit, join, retired, yield, priority, timing, force, tick, close, JoinOutcome, Done, Wait, Invalid, Made, made, unmade, outcome, threadStateOf, tidOn, exited, blocking, refusal, accept, stepped, step, run, refusedNew, initialState, idleCore, madeOf, new}
+use Rattle.model.proofs.Bounded.{accept-cores}
+use Rattle.state.specs.declared.Capacities.{Capacities}
+use Rattle.state.specs.declared.Sched.{Sched}
+use Rattle.state.specs.State.{meant, Valid, laneStart}
+use Rattle.state.specs.Done as D
+use Rattle.state.proofs.Firsts.{length-firsts}
+use Rattle.new_plan.specs.First.{coreCount}
+use Rattle.replay.specs.Replay.{Behind}
+
+pub record Fixed (s t : State) : Type 0 where
+  pub capT : t .config .capT ≡ s .config .capT
+  pub capE : t .config .capE ≡ s .config .capE
+  pub capS : t .config .capS ≡ s .config .capS
+  pub cores : length (t .cores) ≡ length (s .cores)
+
+fixed-join : (s : State) (i t : ℕ) (j : JoinOutcome) → (blocking s i t j .config .capT ≡ s .config .capT) × (blocking s i t j .config .capE ≡ s .config .capE) × (blocking s i t j .config .capS ≡ s .config .capS)
+unfolding blocking
+fixed-join s i t Done = (refl, refl, refl)
+fixed-join s i t Wait = (refl, refl, refl)
+fixed-join s i t Invalid = (refl, refl, refl)
+
+fixed-accept : (s : State) (c : Call) → (accept s c .state .config .capT ≡ s .config .capT) × (accept s c .state .config .capE ≡ s .config .capE) × (accept s c .state .config .capS ≡ s .config .capS)
+unfolding accept exited
+fixed-accept s (spawn p e) = (refl, refl, refl)
+fixed-accept s (exit i) = (refl, refl, refl)
+fixed-accept s (join i t) = fixed-join s i t (outcome (tidOn s i) t (threadStateOf (getElem? (s .accounts .threads) t)))
+fixed-accept s (retired i) = (refl, refl, refl)
+fixed-accept s (yield i) = (refl, refl, refl)
+fixed-accept s (priority t n) = (refl, refl, refl)
+fixed-accept s (timing q w) = (refl, refl, refl)
+fixed-accept s (force i n) = (refl, refl, refl)
+fixed-accept s tick = (refl, refl, refl)
+fixed-accept s (close i) = (refl, refl, refl)
+
+fixed-step : (s : State) (c : Call) → Fixed s (step s c .state)
+unfolding step stepped
+fixed-step s c = go (refusal s c)
+  where
+    go : (r : Option ℕ) → Fixed s (stepped s c r .state)
+    go (some n) = record { capT = refl; capE = refl; capS = refl; cores = refl }
+    go none = let h = fixed-accept s c in record { capT = h .0; capE = h .1; capS = h .2; cores = accept-cores s c }
+
+pub fixed-run : (s : State) (cs : List Call) → Fixed s (run s cs)
+unfolding run
+fixed-run s [] = record { capT = refl; capE = refl; capS = refl; cores = refl }
+fixed-run s (c ∷ cs) =
+    let h = fixed-step s c in
+    let k = fixed-run (step s c .state) cs in
+    record { capT = k .capT ∙ h .capT; capE = k .capE ∙ h .capE; capS = k .capS ∙ h .capS; cores = k .cores ∙ h .cores }
+
+---- the same of the program's state
+
+pub record Alike (s t : Sched) : Type 0 where
+  pub threads : t .capacities .threads ≡ s .capacities .threads
+  pub events : t .capacities .events ≡ s .capacities .events
+  pub segments : t .capacities .segments ≡ s .capacities .segments
+  pub cores : t .cores ≡ s .cores
+
+pub alike : (s t : Sched) (ts ts' : List ThreadInfo) (qs qs' ls ls' ws ws' : List ℕ) (cs : List Call) → meant t ts' qs' ls' ws' ≡ run (meant s ts qs ls ws) cs → Alike s t
+unfolding meant
+alike s t ts ts' qs qs' ls ls' ws ws' cs e =
+    let h = fixed-run (meant s ts qs ls ws) cs in
+    record {
+      threads = ap (λ (x : State). x .config .capT) e ∙ h .capT;
+      events = ap (λ (x : State). x .config .capE) e ∙ h .capE;
+      segments = ap (λ (x : State). x .config .capS) e ∙ h .capS;
+      cores = sym (length-firsts _ (t .cores)) ∙ ap (λ (x : State). length (x .cores)) e ∙ h .cores ∙ length-firsts _ (s .cores);
+    }
+
+---- memory
+
+drop-up : {A : Type 0} (i j : ℕ) (l l' : List A) → i ≤ j → drop i l' ≡ drop i l → drop j l' ≡ drop j l
+drop-up i j l l' h e =
+    let p : i + (j - i) ≡ j = omega arith in
+    subst (λ (k : ℕ). drop k l' ≡ drop k l) p (sym (drop-drop (j - i) i l') ∙ ap (drop (j - i)) e ∙ drop-drop (j - i) i l)
+
+pub behind-none : (T E S c : ℕ) (ts : List ThreadInfo) (qs ps ls ws : List ℕ) → Behind T E S c ts ts qs qs ps ps ls ls ws ws
+behind-none T E S c ts qs ps ls ws = record { threads = refl; queue = refl; prios = refl; log = refl; lanes = refl }
+
+module _ (T E S c : ℕ) (ts ts' ts″ : List ThreadInfo) (qs qs' qs″ ps ps' ps″ ls ls' ls″ ws ws' ws″ : List ℕ) where
+  pub behind-both : Behind T E S c ts ts' qs qs' ps ps' ls ls' ws ws' → Behind T E S c ts' ts″ qs' qs″ ps' ps″ ls' ls″ ws' ws″ → Behind T E S c ts ts″ qs qs″ ps ps″ ls ls″ ws ws″
+  behind-both h k = record { threads = k .threads ∙ h .threads; queue = k .queue ∙ h .queue; prios = k .prios ∙ h .prios; log = k .log ∙ h .log; lanes = k .lanes ∙ h .lanes }
+
+module _ (s t : Sched) (ts ts' : List ThreadInfo) (qs qs' ps ps' ls ls' ws ws' : List ℕ) where
+  -- what one call leaves, at the capacities of a state that has the same
+  pub behind-call : (T E S c : ℕ) → T ≡ s .capacities .threads → E ≡ s .capacities .events → S ≡ s .capacities .segments → c ≡ s .cores → Alike s t
+      → Valid s ts qs ps ls ws → Valid t ts' qs' ps' ls' ws' → D.Frame s t ts ts' qs qs' ps ps' ls ls' ws ws' → Behind T E S c ts ts' qs qs' ps ps' ls ls' ws ws'
+  behind-call T E S c eT eE eS ec a v v' f =
+      let same : t .capacities .threads ≡ s .capacities .threads = a .threads in
+      let used : t .threads ≤ t .capacities .threads = v' .sizes .inUse in
+      let waits : s .queued ≤ s .capacities .threads = v .sizes .waiting in
+      let waits' : t .queued ≤ t .capacities .threads = v' .sizes .waiting in
+      record {
+        threads = drop-up (t .threads) T ts ts' (omega arith) (f .threads);
+        queue = drop-up (max (s .queued) (t .queued)) T qs qs' (omega arith) (f .queue);
+        prios = drop-up (t .threads) T ps ps' (omega arith) (f .prios);
+        log = subst (λ (x : ℕ). drop (2 * x) ls' ≡ drop (2 * x) ls) (sym eE) (f .log);
+        lanes = subst (λ (x : ℕ). drop (laneStart S x) ws' ≡ drop (laneStart S x) ws) (sym ec) (subst (λ (x : ℕ). drop (laneStart x (s .cores)) ws' ≡ drop (laneStart x (s .cores)) ws) (sym eS) (f .lanes));
+      }
+
+---- `new`
+
+new-state : (p : Policy) (q w n t e c entry : ℕ) (s : State) → new p q w n t e c entry ≡ made s → initialState (pred n) entry (record { policy = p; quantum = q; cost = w; capT = t; capE = e; capS = c }) ≡ s
+unfolding new madeOf
+new-state p q w n t e c entry s h = go (refusedNew q w n t e c) h
+  where
+    s0 : State
+    s0 = initialState (pred n) entry (record { policy = p; quantum = q; cost = w; capT = t; capE = e; capS = c })
+
+    stateOf : Made → State
+    stateOf (made x) = x
+    stateOf (unmade m) = s
+
+    go : (r : Option ℕ) → madeOf r s0 ≡ made s → s0 ≡ s
+    go (some m) es = absurd (let z : _≡_ {A = ℕ} 0 1 = cc in omega arith)
+    go none es = ap stateOf es
+
+module _ (c : SchedConfig) (n : ℕ) (k : Capacities) (entry : ℕ) (m : Sched) (ts ts₁ : List ThreadInfo) (qs ps ps₁ ls ls₁ ws : List ℕ) (e : new (policyMeant (c .policy)) (c .quantum) (c .«switch_cost») n (k .threads) (k .events) (k .segments) entry ≡ made (meant m ts₁ qs ls₁ ws)) where
+  first-is : initialState (pred n) entry (record { policy = policyMeant (c .policy); quantum = c .quantum; cost = c .«switch_cost»; capT = k .threads; capE = k .events; capS = k .segments }) ≡ meant m ts₁ qs ls₁ ws
+  first-is = new-state (policyMeant (c .policy)) (c .quantum) (c .«switch_cost») n (k .threads) (k .events) (k .segments) entry (meant m ts₁ qs ls₁ ws) e
+
+  pub first-threads : k .threads ≡ m .capacities .threads
+  unfolding initialState meant
+  first-threads = ap (λ (x : State). x .config .capT) first-is
+
+  pub first-events : k .events ≡ m .capacities .events
+  unfolding initialState meant
+  first-events = ap (λ (x : State). x .config .capE) first-is
+
+  pub first-segments : k .segments ≡ m .capacities .segments
+  unfolding initialState meant
+  first-segments = ap (λ (x : State). x .config .capS) first-is
+
+  pub first-cores : coreCount n ≡ m .cores
+  unfolding initialState meant coreCount
+  first-cores = sym (ap suc (length-replicate (pred n) idleCore)) ∙ ap (λ (x : State). length (x .cores)) first-is ∙ length-firsts _ (m .cores)
+
+  pub first-some : Valid m ts₁ qs ps₁ ls₁ ws → 1 ≤ k .threads
+  unfolding meant
+  first-some v = subst (λ (x : ℕ). 1 ≤ x) (sym first-threads) (v .bounded .settings .capT)
+
+  -- it writes the first record and priority, and the log
+  pub behind-new : 1 ≤ k .threads → drop 1 ts₁ ≡ drop 1 ts → drop 1 ps₁ ≡ drop 1 ps → drop (2 * k .events) ls₁ ≡ drop (2 * k .events) ls → Behind (k .threads) (k .events) (k .segments) (coreCount n) ts ts₁ qs qs ps ps₁ ls ls₁ ws ws
+  behind-new pos a b d = record { threads = drop-up 1 (k .threads) ts ts₁ pos a; queue = refl; prios = drop-up 1 (k .threads) ps ps₁ pos b; log = d; lanes = refl }

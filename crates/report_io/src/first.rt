@@ -1,0 +1,25 @@
+// What the program starts from.
+use crate::Place;
+use crate::Upcoming;
+use crate::input::next_line;
+use feed_plan::Report;
+ghost use Prim.Native.Nat.{_≤_};
+ghost use lib.ListN.{length};
+ghost use Rattle.feed_plan.specs.Meant.{Few};
+ghost use Rattle.report_io.specs.Blocks.{Awaits};
+
+// The first line of the script.
+pub fn first_line(r: Report, blocks: &mut [u8]) -> Upcoming
+    requires { ⌜ Few (r .stage) (r .lines) × (131_072 ≤ length (now blocks)) ⌝ }
+    ensures { λ u. ⌜ Awaits r (now (blocks .exit)) u ⌝ }
+{
+    let place = Place {
+        at: 0,
+        end: 0,
+        all_read: false,
+        pending: 0,
+        all_written: true,
+        turn: 0,
+    };
+    next_line(r, place, blocks)
+}

@@ -1,0 +1,93 @@
+// Any call applied to the scheduler: one function for lists of calls, scripts and traces.
+pub mod answers;
+
+use answers::of_answered;
+use answers::of_join;
+use answers::of_spawn;
+use answers::of_ticked;
+use model::CoreId;
+use model::JoinOutcome;
+use model::OptionTid;
+use model::ThreadInfo;
+use model::Tid;
+use sched_close::close;
+use sched_exit::exit;
+use sched_force::force_switch;
+use sched_marks::marks::retired;
+use sched_marks::marks::set_timing;
+use sched_threads::join;
+use sched_threads::set_priority;
+use sched_threads::spawn;
+use sched_threads::yield_now;
+use sched_tick::end_tick;
+use settings::Refusal;
+use state::Sched;
+use switches::SwitchList;
+ghost use Rattle.state.specs.State.{Valid};
+ghost use Rattle.state.specs.Done.{Done};
+ghost use Rattle.sched.specs.Meant.{callMeant, outcomeMeant};
+
+// A call with its arguments.
+pub enum Call {
+    Spawn(OptionTid, u32),
+    Exit(CoreId),
+    Join(CoreId, Tid),
+    Retired(CoreId),
+    YieldNow(CoreId),
+    SetPriority(Tid, u32),
+    SetTiming(u32, u32),
+    ForceSwitch(CoreId, OptionTid),
+    EndTick,
+    Close(CoreId),
+}
+
+// What a call says: the refusal, or how it was taken. After `Switched` the switch list counts.
+pub enum Outcome {
+    Refused(Refusal),
+    Taken,
+    Spawned(Tid),
+    Joined(JoinOutcome),
+    Switched,
+}
+
+// The state that a call leaves, with what it says.
+pub struct Applied {
+    pub sched: Sched,
+    pub outcome: Outcome,
+    pub switches: SwitchList,
+}
+
+// The call is done on the state and the lent memory, as the definition's `step` does it.
+pub fn apply(
+    s: Sched,
+    call: Call,
+    threads: &mut [ThreadInfo],
+    queue: &mut [u32],
+    prios: &mut [u32],
+    log: &mut [u64],
+    lanes: &mut [u64],
+) -> Applied
+    requires { ⌜ Valid s (now threads) (now queue) (now prios) (now log) (now lanes) ⌝ }
+    ensures { λ r. ⌜ Done (callMeant call) (outcomeMeant (r .outcome) (r .switches)) s (r .sched) (now (threads .entry)) (now (threads .exit)) (now (queue .entry)) (now (queue .exit)) (now (prios .entry)) (now (prios .exit)) (now (log .entry)) (now (log .exit)) (now (lanes .entry)) (now (lanes .exit)) ⌝ }
+{
+    match call {
+        Call::Spawn(parent, entry_pc) => {
+            of_spawn(spawn(s, parent, entry_pc, threads, queue, prios, log))
+        }
+        Call::Exit(core) => of_answered(exit(s, core, threads, queue, log)),
+        Call::Join(core, target) => of_join(join(s, core, target, threads)),
+        Call::Retired(core) => of_answered(retired(s, core)),
+        Call::YieldNow(core) => of_answered(yield_now(s, core, threads)),
+        Call::SetPriority(tid, number) => {
+            of_answered(set_priority(s, tid, number, threads, prios, log))
+        }
+        Call::SetTiming(quantum, switch_cost) => {
+            of_answered(set_timing(s, quantum, switch_cost))
+        }
+        Call::ForceSwitch(core, named) => {
+            of_ticked(force_switch(s, core, named, threads, queue, prios, log, lanes))
+        }
+        Call::EndTick => of_ticked(end_tick(s, threads, queue, prios, log, lanes)),
+        Call::Close(core) => of_answered(close(s, core, threads, queue, log, lanes)),
+    }
+}

@@ -1,0 +1,36 @@
+// The call `force_switch`: what `force_plan` decides, and the thread records in the lent slice.
+use force_plan::force::force_decided;
+use force_plan::force::present_tick;
+use model::CoreId;
+use model::OptionTid;
+use model::ThreadInfo;
+use state::Sched;
+use threads::apply_moves;
+use tick_plan::Ticked;
+use tick_plan::tick::moves_of;
+use tick_plan::tick::ticked;
+ghost use Rattle.model.specs.Reading.{optionTidMeant, switchAnswerMeant};
+ghost use Rattle.model.specs.Calls;
+ghost use Rattle.state.specs.State.{Valid};
+ghost use Rattle.state.specs.Done.{Done};
+
+// The named thread, or the next one, takes the core; a thread that runs there goes to the back. No tick passes: the moves are written at `now`.
+pub fn force_switch(
+    s: Sched,
+    core: CoreId,
+    named: OptionTid,
+    threads: &mut [ThreadInfo],
+    queue: &mut [u32],
+    prios: &[u32],
+    log: &mut [u64],
+    lanes: &mut [u64],
+) -> Ticked
+    requires { ⌜ Valid s (now threads) (now queue) (now prios) (now log) (now lanes) ⌝ }
+    ensures { λ r. ⌜ Done (Calls.force (core .0) (optionTidMeant named)) (switchAnswerMeant (r .answer) (r .switches .entries) (r .switches .count)) s (r .sched) (now (threads .entry)) (now (threads .exit)) (now (queue .entry)) (now (queue .exit)) (now (prios .entry)) (now (prios .entry)) (now (log .entry)) (now (log .exit)) (now (lanes .entry)) (now (lanes .exit)) ⌝ }
+{
+    let d = force_decided(s, core, named, queue, prios, log, lanes);
+    let moves = moves_of(d);
+    let tick = present_tick(s);
+    apply_moves(threads, lanes, moves, tick);
+    ticked(d)
+}
