@@ -1,4 +1,4 @@
-// Appended to a copy of the original sched.rs, its test module cut off.
+// Goes behind a copy of the original sched.rs, its test module cut off, and guarded.rs.
 //
 //   driver random LISTS CALLS SEED [always]   writes a script of random call lists of up to 2 CALLS - 1 calls
 //   driver limits LISTS CALLS SEED            the same with T 256, E 512 and S 4096, and many threads
@@ -14,7 +14,7 @@
 //   5 CORE                                    yield_now  11                show: the whole state
 // A refused `new` leaves the scheduler that was there. With `always` the state is shown after every call, otherwise after the last call of a list and
 // now and then before.
-// The refusals that 01 adds are made here, before the Rust is asked; the Rust then keeps the newest E events and S segments of a core.
+// guarded.rs makes the refusals that 01 adds, before the Rust is asked; the Rust then keeps the newest E events and S segments of a core.
 use std::fmt::Write as _;
 use std::io::{BufRead, Write as _};
 
@@ -45,180 +45,48 @@ fn or_dash<T: std::fmt::Display>(o: Option<T>) -> String {
     o.map_or("-".to_string(), |x| x.to_string())
 }
 
-// ---- the Rust behind 01's refusals
+// ---- a script's lines as calls; guarded.rs refuses and makes them
 
-struct Guarded {
-    sched: Scheduler<()>,
-    cap_threads: usize,
-    cap_events: usize,
-    cap_segments: usize,
-    closed: bool,
+fn made(a: &[Option<u64>]) -> Result<Guarded, u32> {
+    let n = |i: usize| a[i].unwrap();
+    let cfg = SchedConfig {
+        policy: SchedPolicy::ALL[(n(0) % 4) as usize],
+        quantum: n(1) as u32,
+        switch_cost: n(2) as u32,
+    };
+    let capacities = Capacities {
+        threads: n(4),
+        events: n(5),
+        segments: n(6),
+    };
+    Guarded::new(cfg, n(3) as u32, capacities, n(7) as u32)
 }
 
-const LIMIT_NOW: u64 = 4_000_000_000;
-const LIMIT_SWITCHES: u64 = 40_000_000_000;
-
-fn policy_of(n: u64) -> SchedPolicy {
-    SchedPolicy::ALL[(n % 4) as usize]
+fn call_of(code: u64, a: &[Option<u64>]) -> Call {
+    let n = |i: usize| a[i].unwrap() as u32;
+    let tid = |i: usize| a[i].map(|x| x as u32);
+    match code {
+        1 => Call::Spawn(tid(0), n(1)),
+        2 => Call::Exit(n(0)),
+        3 => Call::Join(n(0), n(1)),
+        4 => Call::Retired(n(0)),
+        5 => Call::Yield(n(0)),
+        6 => Call::Priority(n(0), n(1)),
+        7 => Call::Timing(n(0), n(1)),
+        8 => Call::Force(n(0), tid(1)),
+        9 => Call::Tick,
+        _ => Call::Close(n(0)),
+    }
 }
 
-impl Guarded {
-    fn new(a: &[u64]) -> Result<Self, u32> {
-        let [policy, quantum, cost, cores, t, e, s, entry] = a[..8] else {
-            unreachable!()
-        };
-        if !(1..=1_000_000).contains(&quantum) || cost > 10_000 {
-            return Err(1);
-        }
-        if cores > 8 {
-            return Err(2);
-        }
-        if !(1..=256).contains(&t) || !(1..=512).contains(&e) || !(1..=4096).contains(&s) {
-            return Err(3);
-        }
-        let cfg = SchedConfig {
-            policy: policy_of(policy),
-            quantum: quantum as u32,
-            switch_cost: cost as u32,
-        };
-        Ok(Guarded {
-            sched: Scheduler::new(cfg, cores as usize, entry as u32),
-            cap_threads: t as usize,
-            cap_events: e as usize,
-            cap_segments: s as usize,
-            closed: false,
-        })
-    }
-
-    fn leaving(&self, core: usize) -> bool {
-        self.sched.flags[core].exit || self.sched.flags[core].block
-    }
-
-    // 4, 11, 12 and 13, as exit, join, yield and close check them
-    fn of_core(&self, core: u64, running: bool) -> Result<usize, u32> {
-        let core = self.exists(core)?;
-        if self.leaving(core) {
-            return Err(12);
-        }
-        match self.sched.cores[core] {
-            CoreState::Running { .. } => Ok(core),
-            CoreState::Switching { .. } if !running => Ok(core),
-            _ => Err(13),
-        }
-    }
-
-    fn exists(&self, core: u64) -> Result<usize, u32> {
-        if core >= self.sched.cores.len() as u64 {
-            return Err(4);
-        }
-        self.open()?;
-        Ok(core as usize)
-    }
-
-    fn open(&self) -> Result<(), u32> {
-        if self.closed {
-            Err(11)
-        } else {
-            Ok(())
-        }
-    }
-
-    fn call(&mut self, code: u64, a: &[Option<u64>]) -> Result<String, u32> {
-        let n = |i: usize| a[i].unwrap();
-        let tid = |i: usize| a[i].map(|x| x as u32);
-        match code {
-            1 => {
-                self.open()?;
-                if self.sched.threads.len() >= self.cap_threads {
-                    return Err(17);
-                }
-                Ok(format!(
-                    "spawned {}",
-                    self.sched.spawn(tid(0), n(1) as u32, ())
-                ))
-            }
-            2 => {
-                let core = self.of_core(n(0), false)?;
-                self.sched.exit(core);
-                Ok("ok".into())
-            }
-            3 => {
-                let core = self.of_core(n(0), true)?;
-                Ok(match self.sched.join(core, n(1) as u32) {
-                    JoinOutcome::Wait => "joined wait".into(),
-                    JoinOutcome::Done => "joined done".into(),
-                    JoinOutcome::Invalid => "joined invalid".into(),
-                })
-            }
-            4 => {
-                let core = self.exists(n(0))?;
-                self.sched.retired(core);
-                Ok("ok".into())
-            }
-            5 => {
-                let core = self.of_core(n(0), true)?;
-                let t = self.sched.running_on(core).unwrap();
-                if self.sched.threads[t as usize].stats.yields >= LIMIT_NOW {
-                    return Err(19);
-                }
-                self.sched.yield_now(core);
-                Ok("ok".into())
-            }
-            6 => {
-                if n(0) >= self.sched.threads.len() as u64 {
-                    return Err(5);
-                }
-                self.open()?;
-                self.sched.set_priority(n(0) as u32, n(1) as u32);
-                Ok("ok".into())
-            }
-            7 => {
-                if n(0) > 1_000_000 || n(1) > 10_000 {
-                    return Err(1);
-                }
-                self.open()?;
-                self.sched.set_timing(n(0) as u32, n(1) as u32);
-                Ok("ok".into())
-            }
-            8 => self.force(n(0), tid(1)),
-            9 => {
-                self.open()?;
-                if self.sched.now >= LIMIT_NOW {
-                    return Err(18);
-                }
-                let list = self.sched.end_tick();
-                Ok(switched(&list))
-            }
-            _ => {
-                let core = self.of_core(n(0), false)?;
-                if self.sched.now >= LIMIT_NOW {
-                    return Err(18);
-                }
-                self.sched.close(core);
-                self.closed = true;
-                Ok("ok".into())
-            }
-        }
-    }
-
-    fn force(&mut self, core: u64, named: Option<u32>) -> Result<String, u32> {
-        let core = self.exists(core)?;
-        if (0..self.sched.cores.len()).any(|c| self.leaving(c)) {
-            return Err(12);
-        }
-        if matches!(self.sched.cores[core], CoreState::Switching { .. }) {
-            return Err(14);
-        }
-        match named {
-            Some(t) if !self.sched.ready.contains(&t) => return Err(15),
-            None if self.sched.ready.is_empty() => return Err(16),
-            _ => {}
-        }
-        if self.sched.context_switches >= LIMIT_SWITCHES {
-            return Err(19);
-        }
-        let list = self.sched.force_switch(core, named).unwrap();
-        Ok(switched(&list))
+fn said(answer: Answer) -> String {
+    match answer {
+        Answer::Ok => "ok".into(),
+        Answer::Spawned(tid) => format!("spawned {}", tid),
+        Answer::Joined(JoinOutcome::Wait) => "joined wait".into(),
+        Answer::Joined(JoinOutcome::Done) => "joined done".into(),
+        Answer::Joined(JoinOutcome::Invalid) => "joined invalid".into(),
+        Answer::Switched(list) => switched(&list),
     }
 }
 
@@ -287,7 +155,7 @@ fn write_state(g: &Guarded, o: &mut String) {
     for e in s
         .events
         .iter()
-        .skip(s.events.len().saturating_sub(g.cap_events))
+        .skip(s.events.len().saturating_sub(g.capacities.events as usize))
     {
         write!(o, "event {} {} ", e.tick, e.tid).unwrap();
         match e.kind {
@@ -302,7 +170,7 @@ fn write_state(g: &Guarded, o: &mut String) {
         .unwrap();
     }
     for (i, line) in s.timeline.iter().enumerate() {
-        for g in line.iter().skip(line.len().saturating_sub(g.cap_segments)) {
+        for g in line.iter().skip(line.len().saturating_sub(g.capacities.segments as usize)) {
             match g.lane {
                 Lane::Idle => write!(o, "segment {} idle", i),
                 Lane::Switch(t) => write!(o, "segment {} switch {}", i, t),
@@ -403,7 +271,7 @@ fn answer() {
     let mut input = std::io::stdin().lock().lines().map(|l| l.unwrap());
     let mut output = std::io::BufWriter::with_capacity(1 << 16, std::io::stdout().lock());
     let count: u64 = input.next().unwrap().parse().unwrap();
-    let mut at = Guarded::new(&[2, 1, 0, 1, 1, 1, 1, 0]).unwrap_or_else(|_| unreachable!());
+    let mut at = made(&[2, 1, 0, 1, 1, 1, 1, 0].map(Some)).unwrap_or_else(|_| unreachable!());
     let mut text = String::new();
     let mut seen = 0;
     for line in input {
@@ -412,19 +280,16 @@ fn answer() {
         let args: Vec<Option<u64>> = words.map(|w| w.parse().ok()).collect();
         seen += 1;
         text.clear();
-        let said = match code {
-            0 => {
-                let plain: Vec<u64> = args.iter().map(|a| a.unwrap()).collect();
-                Guarded::new(&plain).map(|g| {
-                    at = g;
-                    "ok".to_string()
-                })
-            }
+        let answer = match code {
+            0 => made(&args).map(|g| {
+                at = g;
+                "ok".to_string()
+            }),
             11 => Ok("shown".to_string()),
-            _ => at.call(code, &args),
+            _ => at.call(call_of(code, &args)).map(said),
         };
-        match said {
-            Ok(said) => writeln!(text, "{}", said).unwrap(),
+        match answer {
+            Ok(answer) => writeln!(text, "{}", answer).unwrap(),
             Err(k) => writeln!(text, "refused {}", k).unwrap(),
         }
         if code == 11 {
