@@ -1,7 +1,7 @@
 -- What `core_threads` makes of the cores says who runs and who holds a core, and charging reads the cores' states only.
 use Prim.Native.Nat.{ℕ, zero, suc, _+_, _<_, _≤_}
 use mathlib.Core.Path.{_≡_, refl, sym, ap, _∙_}
-use mathlib.Core.Bool.{Bool, true, false, cond, _||_}
+use mathlib.Core.Bool.{Bool, true, false, cond, _&&_, _||_}
 use mathlib.Core.List.{List, [], _∷_, _++_, map, map-append}
 use native.Mathlib.Numerals.{add-one}
 use native.Mathlib.Omega.{arith}
@@ -19,17 +19,30 @@ use Rattle.model.specs.Accounting
 use Rattle.model.specs.Accounting.{addCounts, setCounts, runs, runsOn, holds, isHolder, chargeWaiting, chargeThreads}
 use Rattle.model.specs.Calls.{elem}
 use Rattle.charges.specs.declared.charge.CoreThreads.{CoreThreads}
-use Rattle.charges.specs.Charging.{nobody, runnerWord, holderWord, coreThreadsOf, coresMeant, chargeThread, runDue, readyDue, blockedDue}
+use Rattle.charges.specs.Charging.{nobody, holderWord, isRunning, coreThreadsOf, runsHeld, coresMeant, chargeThread, runDue, readyDue, blockedDue}
+
+---- truth values
+
+no : false ≡ true → ⊥
+no e = let z : _≡_ {A = ℕ} 0 1 = cc in omega arith
+
+or-none : (b : Bool) → b || false ≡ b
+or-none true = refl
+or-none false = refl
+
+and-false : (b : Bool) → b && false ≡ false
+and-false true = refl
+and-false false = refl
+
+and-true : (b : Bool) → b && true ≡ b
+and-true true = refl
+and-true false = refl
 
 ---- loops over eight words
 
 elem-back : (x : ℕ) (l : List ℕ) (y : ℕ) → elem x (l ++ (y ∷ [])) ≡ elem x l || eqb y x
 unfolding elem
-elem-back x [] y = or-false (eqb y x)
-  where
-    or-false : (b : Bool) → b || false ≡ b
-    or-false true = refl
-    or-false false = refl
+elem-back x [] y = or-none (eqb y x)
 elem-back x (h ∷ l) y = rw (elem-back x l y) (sym (or-assoc (eqb h x) (elem x l) (eqb y x)))
   where
     or-assoc : (a b c : Bool) → (a || b) || c ≡ a || (b || c)
@@ -53,26 +66,52 @@ elem-miss x k l found h e q = e ∙ sym (elem-next x k l h ∙ rw (ne-eqb (getD 
     or-none true = refl
     or-none false = refl
 
-pub filled : {A : Type 0} (f : A → ℕ) (xs : List A) (d : A) (out : List ℕ) (k y : ℕ) → k < length xs → k < length out → y ≡ f (getD xs k d) → take k out ≡ map f (take k xs)
+pub filled : {A B : Type 0} (f : A → B) (xs : List A) (d : A) (out : List B) (k : ℕ) (y : B) → k < length xs → k < length out → y ≡ f (getD xs k d) → take k out ≡ map f (take k xs)
     → take (k + 1) (set out k y) ≡ map f (take (k + 1) xs)
 filled f xs d out k y h l v e = rw (add-one, take-suc xs k d h, take-suc-set out k y l, map-append, e, v)
 
-pub all-filled : (cores : List CoreStates.CoreState) (running held : List ℕ) (k : ℕ) → length cores ≤ k → length running ≤ k → length held ≤ k → take k running ≡ map runnerWord (take k cores) → take k held ≡ map holderWord (take k cores)
-    → _≡_ {A = CoreThreads} (record { running = running; held = held }) (coreThreadsOf cores)
+pub all-filled : (cores : List CoreStates.CoreState) (held : List ℕ) (running : List Bool) (k : ℕ) → length cores ≤ k → length held ≤ k → length running ≤ k → take k held ≡ map holderWord (take k cores) → take k running ≡ map isRunning (take k cores)
+    → _≡_ {A = CoreThreads} (record { held = held; running = running }) (coreThreadsOf cores)
 unfolding coreThreadsOf
-all-filled cores running held k a b c e f =
-    let p : running ≡ map runnerWord cores = sym (take-all k running b) ∙ e ∙ ap (map runnerWord) (take-all k cores a) in
-    let q : held ≡ map holderWord cores = sym (take-all k held c) ∙ f ∙ ap (map holderWord) (take-all k cores a) in
+all-filled cores held running k a b c e f =
+    let p : held ≡ map holderWord cores = sym (take-all k held b) ∙ e ∙ ap (map holderWord) (take-all k cores a) in
+    let q : running ≡ map isRunning cores = sym (take-all k running c) ∙ f ∙ ap (map isRunning) (take-all k cores a) in
     rw (p, q)
+
+runsHeld-next : (i k : ℕ) (hs : List ℕ) (rs : List Bool) → k < length hs → k < length rs → runsHeld i (take (suc k) hs) (take (suc k) rs) ≡ runsHeld i (take k hs) (take k rs) || (eqb (getD hs k 0) i && getD rs k false)
+unfolding runsHeld
+runsHeld-next i k [] rs a b = absurd (omega (arith, a))
+runsHeld-next i k (h ∷ hs) [] a b = absurd (omega (arith, b))
+runsHeld-next i zero (h ∷ hs) (r ∷ rs) a b = or-none (eqb h i && r)
+runsHeld-next i (suc k) (h ∷ hs) (r ∷ rs) a b = rw (runsHeld-next i k hs rs (omega (arith, a)) (omega (arith, b))) (sym (or-assoc (eqb h i && r) (runsHeld i (take k hs) (take k rs)) (eqb (getD hs k 0) i && getD rs k false)))
+  where
+    or-assoc : (a b c : Bool) → (a || b) || c ≡ a || (b || c)
+    or-assoc true b c = refl
+    or-assoc false b c = refl
+
+-- one core more, of which it is known whether the thread holds it and whether it runs
+module _ (i k : ℕ) (hs : List ℕ) (rs : List Bool) (found : Bool) (a : k < length hs) (b : k < length rs) (e : found ≡ runsHeld i (take k hs) (take k rs)) where
+  pub run-hit : getD hs k 0 ≡ i → getD rs k false ≡ true → true ≡ runsHeld i (take (k + 1) hs) (take (k + 1) rs)
+  run-hit h r = sym (rw (add-one, runsHeld-next i k hs rs a b, eq-eqb (getD hs k 0) i h, r) (or-true (runsHeld i (take k hs) (take k rs))))
+    where
+      or-true : (b : Bool) → b || true ≡ true
+      or-true true = refl
+      or-true false = refl
+
+  pub run-rests : getD hs k 0 ≡ i → getD rs k false ≡ false → found ≡ runsHeld i (take (k + 1) hs) (take (k + 1) rs)
+  run-rests h r = e ∙ sym (rw (add-one, runsHeld-next i k hs rs a b, eq-eqb (getD hs k 0) i h, r) (or-none (runsHeld i (take k hs) (take k rs))))
+
+  pub run-miss : (getD hs k 0 ≡ i → ⊥) → found ≡ runsHeld i (take (k + 1) hs) (take (k + 1) rs)
+  run-miss h = e ∙ sym (rw (add-one, runsHeld-next i k hs rs a b, ne-eqb (getD hs k 0) i h) (or-none (runsHeld i (take k hs) (take k rs))))
 
 ---- who runs, who holds
 
-runs-word : (i : ℕ) → i < nobody → (cores : List CoreStates.CoreState) → elem i (map runnerWord cores) ≡ runs i (coresMeant cores)
-unfolding elem runs runsOn coresMeant
-runs-word i h [] = refl
-runs-word i h (coreStates.Idle ∷ cs) = rw (ne-eqb nobody i (λ e. omega arith)) (runs-word i h cs)
-runs-word i h (coreStates.Switching t l ∷ cs) = rw (ne-eqb nobody i (λ e. omega arith)) (runs-word i h cs)
-runs-word i h (coreStates.Running t s ∷ cs) = ap (λ (b : Bool). eqb (t .0) i || b) (runs-word i h cs)
+runs-word : (i : ℕ) (cores : List CoreStates.CoreState) → runsHeld i (map holderWord cores) (map isRunning cores) ≡ runs i (coresMeant cores)
+unfolding runsHeld runs runsOn coresMeant
+runs-word i [] = refl
+runs-word i (coreStates.Idle ∷ cs) = rw (and-false (eqb nobody i)) (runs-word i cs)
+runs-word i (coreStates.Switching t l ∷ cs) = rw (and-false (eqb (t .0) i)) (runs-word i cs)
+runs-word i (coreStates.Running t s ∷ cs) = rw (and-true (eqb (t .0) i)) (ap (λ (b : Bool). eqb (t .0) i || b) (runs-word i cs))
 
 holds-word : (i : ℕ) → i < nobody → (cores : List CoreStates.CoreState) → elem i (map holderWord cores) ≡ holds i (coresMeant cores)
 unfolding elem holds isHolder coresMeant
@@ -81,32 +120,24 @@ holds-word i h (coreStates.Idle ∷ cs) = rw (ne-eqb nobody i (λ e. omega arith
 holds-word i h (coreStates.Switching t l ∷ cs) = ap (λ (b : Bool). eqb (t .0) i || b) (holds-word i h cs)
 holds-word i h (coreStates.Running t s ∷ cs) = ap (λ (b : Bool). eqb (t .0) i || b) (holds-word i h cs)
 
-runs-is : (i : ℕ) → i < nobody → (on : CoreThreads) (cores : List CoreStates.CoreState) → on ≡ coreThreadsOf cores → elem i (on .running) ≡ runs i (coresMeant cores)
+runs-is : (i : ℕ) (on : CoreThreads) (cores : List CoreStates.CoreState) → on ≡ coreThreadsOf cores → runsHeld i (on .held) (on .running) ≡ runs i (coresMeant cores)
 unfolding coreThreadsOf
-runs-is i h on cores e = ap (λ (o : CoreThreads). elem i (o .running)) e ∙ runs-word i h cores
+runs-is i on cores e = ap (λ (o : CoreThreads). runsHeld i (o .held) (o .running)) e ∙ runs-word i cores
 
 holds-is : (i : ℕ) → i < nobody → (on : CoreThreads) (cores : List CoreStates.CoreState) → on ≡ coreThreadsOf cores → elem i (on .held) ≡ holds i (coresMeant cores)
 unfolding coreThreadsOf
 holds-is i h on cores e = ap (λ (o : CoreThreads). elem i (o .held)) e ∙ holds-word i h cores
 
 -- a thread that runs on a core holds it
-run-word : (i : ℕ) → i < nobody → (s : CoreStates.CoreState) → eqb (runnerWord s) i ≡ true → eqb (holderWord s) i ≡ true
-run-word i h coreStates.Idle e = e
-run-word i h (coreStates.Switching t l) e = absurd (never nobody i h (eqb-true nobody i e))
+runs-hold : (i : ℕ) (held : List ℕ) (running : List Bool) → runsHeld i held running ≡ true → elem i held ≡ true
+unfolding elem runsHeld
+runs-hold i [] rs e = e
+runs-hold i (h ∷ hs) [] e = absurd (no e)
+runs-hold i (h ∷ hs) (r ∷ rs) e = either (eqb h i) r (runsHeld i hs rs) (elem i hs) (runs-hold i hs rs) e
   where
-    never : (n i : ℕ) → i < n → n ≡ i → ⊥
-    never n i h e = omega arith
-run-word i h (coreStates.Running t s) e = e
-
-runs-hold : (i : ℕ) → i < nobody → (cores : List CoreStates.CoreState) → elem i (map runnerWord cores) ≡ true → elem i (map holderWord cores) ≡ true
-unfolding elem
-runs-hold i h [] e = e
-runs-hold i h (s ∷ cs) e = either (eqb (runnerWord s) i) (elem i (map runnerWord cs)) (eqb (holderWord s) i) (elem i (map holderWord cs)) (run-word i h s) (runs-hold i h cs) e
-  where
-    either : (a b c d : Bool) → (a ≡ true → c ≡ true) → (b ≡ true → d ≡ true) → a || b ≡ true → c || d ≡ true
-    either true b c d f g e = rw (f refl)
-    either false b true d f g e = refl
-    either false b false d f g e = g e
+    either : (a b c d : Bool) → (c ≡ true → d ≡ true) → (a && b) || c ≡ true → a || d ≡ true
+    either true b c d f e = refl
+    either false b c d f e = f e
 
 ---- a tick's part in the counters
 
@@ -114,47 +145,51 @@ pub run-due : (b : Bool) → runDue b ≤ 1
 run-due true = omega arith
 run-due false = omega arith
 
-pub ready-due : (b : Bool) (s : ThreadState) → readyDue b s ≤ 1
-ready-due true s = omega arith
-ready-due false Ready = omega arith
-ready-due false Exited = omega arith
-ready-due false (OnCore i) = omega arith
-ready-due false (Blocked t) = omega arith
+pub ready-due : (s : ThreadState) → readyDue s ≤ 1
+ready-due Ready = omega arith
+ready-due Exited = omega arith
+ready-due (OnCore i) = omega arith
+ready-due (Blocked t) = omega arith
 
-pub blocked-due : (b : Bool) (s : ThreadState) → blockedDue b s ≤ 1
-blocked-due true s = omega arith
-blocked-due false Ready = omega arith
-blocked-due false Exited = omega arith
-blocked-due false (OnCore i) = omega arith
-blocked-due false (Blocked t) = omega arith
+pub blocked-due : (s : ThreadState) → blockedDue s ≤ 1
+blocked-due Ready = omega arith
+blocked-due Exited = omega arith
+blocked-due (OnCore i) = omega arith
+blocked-due (Blocked t) = omega arith
 
 abbrev dueAdded : (run ready blocked : ℕ) → ThreadRecord → ThreadRecord
-dueAdded a b c t = setCounts (record { run = t .counts .run + a; ready = t .counts .ready + b; blocked = t .counts .blocked + c; dispatches = t .counts .dispatches; preemptions = t .counts .preemptions; yields = t .counts .yields }) t
+dueAdded a b c t = setCounts (record { run = a; ready = b; blocked = c; dispatches = t .counts .dispatches; preemptions = t .counts .preemptions; yields = t .counts .yields }) t
 
-due-is : (t : ThreadRecord) (runs holds : Bool) → (runs ≡ true → holds ≡ true) → (s : ThreadState)
-    → dueAdded (runDue runs) (readyDue holds s) (blockedDue holds s) t ≡ cond runs (addCounts 1 0 0 0 0 0 t) (cond holds t (chargeWaiting s t))
+run-is : (t : ThreadRecord) (runs : Bool) → dueAdded (t .counts .run + runDue runs) (t .counts .ready) (t .counts .blocked) t ≡ cond runs (addCounts 1 0 0 0 0 0 t) t
+unfolding addCounts
+run-is t true = simp add-zero
+run-is t false = simp add-zero
+
+wait-is : (t : ThreadRecord) (s : ThreadState) → dueAdded (t .counts .run) (t .counts .ready + readyDue s) (t .counts .blocked + blockedDue s) t ≡ chargeWaiting s t
 unfolding addCounts chargeWaiting
-due-is t true true h s = simp add-zero
-due-is t true false h s = absurd (no (h refl))
-  where
-    no : false ≡ true → ⊥
-    no e = let z : _≡_ {A = ℕ} 0 1 = cc in omega arith
-due-is t false true h s = simp add-zero
-due-is t false false h Ready = simp add-zero
-due-is t false false h Exited = simp add-zero
-due-is t false false h (OnCore i) = simp add-zero
-due-is t false false h (Blocked u) = simp add-zero
+wait-is t Ready = simp add-zero
+wait-is t Exited = simp add-zero
+wait-is t (OnCore i) = simp add-zero
+wait-is t (Blocked u) = simp add-zero
 
 -- what `charged` makes of thread i's record t
-pub charged-is : (i : ℕ) → i < nobody → (on : CoreThreads) (t : ThreadRecord) (runs holds : Bool) → runs ≡ elem i (on .running) → holds ≡ elem i (on .held)
-    → (run ready blocked : ℕ) → run ≡ runDue runs → ready ≡ readyDue holds (t .state) → blocked ≡ blockedDue holds (t .state)
-    → (cores : List CoreStates.CoreState) → on ≡ coreThreadsOf cores → dueAdded run ready blocked t ≡ chargeThread (coresMeant cores) i t
-unfolding chargeThread coreThreadsOf
-charged-is i h on t runs holds r k run ready blocked a b c cores e =
-    let ran : runs ≡ Accounting.runs i (coresMeant cores) = r ∙ runs-is i h on cores e in
-    let held : holds ≡ Accounting.holds i (coresMeant cores) = k ∙ holds-is i h on cores e in
-    let both : runs ≡ true → holds ≡ true = λ q. k ∙ (ap (λ (o : CoreThreads). elem i (o .held)) e ∙ runs-hold i h cores (sym (ap (λ (o : CoreThreads). elem i (o .running)) e) ∙ (sym r ∙ q))) in
-    rw (a, b, c, ← ran, ← held) (due-is t runs holds both (t .state))
+module _ (i : ℕ) (h : i < nobody) (on : CoreThreads) (t : ThreadRecord) (cores : List CoreStates.CoreState) (e : on ≡ coreThreadsOf cores) where
+  pub held-is : elem i (on .held) ≡ true → (due : ℕ) → due ≡ runDue (runsHeld i (on .held) (on .running)) → dueAdded (t .counts .run + due) (t .counts .ready) (t .counts .blocked) t ≡ chargeThread (coresMeant cores) i t
+  unfolding chargeThread
+  held-is k due d =
+      let held : Accounting.holds i (coresMeant cores) ≡ true = sym (holds-is i h on cores e) ∙ k in
+      rw (d, held, ← runs-is i on cores e) (run-is t (runsHeld i (on .held) (on .running)))
+
+  pub waiting-is : elem i (on .held) ≡ false → (ready blocked : ℕ) → ready ≡ readyDue (t .state) → blocked ≡ blockedDue (t .state) → dueAdded (t .counts .run) (t .counts .ready + ready) (t .counts .blocked + blocked) t ≡ chargeThread (coresMeant cores) i t
+  unfolding chargeThread
+  waiting-is k ready blocked r b =
+      let held : Accounting.holds i (coresMeant cores) ≡ false = sym (holds-is i h on cores e) ∙ k in
+      let ran : Accounting.runs i (coresMeant cores) ≡ false = sym (runs-is i on cores e) ∙ not-run (runsHeld i (on .held) (on .running)) (λ q. no (sym k ∙ runs-hold i (on .held) (on .running) q)) in
+      rw (r, b, held, ran) (wait-is t (t .state))
+    where
+      not-run : (b : Bool) → (b ≡ true → ⊥) → b ≡ false
+      not-run true f = absurd (f refl)
+      not-run false f = refl
 
 ---- charging reads no marks, and idle cores add nothing
 

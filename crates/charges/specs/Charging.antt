@@ -1,7 +1,8 @@
 -- Charging one tick to one thread.
 use Prim.Native.Nat.{ℕ, _+_, _<_, _^_}
-use mathlib.Core.Bool.{Bool, true, false, cond}
-use mathlib.Core.List.{List, map}
+use mathlib.Core.Bool.{Bool, true, false, cond, _&&_, _||_}
+use mathlib.Core.List.{List, [], _∷_, map}
+use lib.Dec.{eqb}
 use Rattle.model.specs.declared.CoreState as CoreStates
 use Rattle.model.specs.declared.CoreState.the-variants as coreStates
 use Rattle.model.specs.Types.{Core, ThreadState, Ready, Exited, OnCore, Blocked, ThreadRecord}
@@ -23,37 +24,41 @@ chargeThread cs i t = cond (runs i cs) (addCounts 1 0 0 0 0 0 t) (cond (holds i 
 abbrev pub nobody : ℕ
 nobody = 4294967295
 
-abbrev pub runnerWord : CoreStates.CoreState → ℕ
-runnerWord coreStates.Idle = nobody
-runnerWord (coreStates.Switching t l) = nobody
-runnerWord (coreStates.Running t s) = t .0
-
 abbrev pub holderWord : CoreStates.CoreState → ℕ
 holderWord coreStates.Idle = nobody
 holderWord (coreStates.Switching t l) = t .0
 holderWord (coreStates.Running t s) = t .0
 
-unfoldable pub coreThreadsOf : List CoreStates.CoreState → CoreThreads
-coreThreadsOf cores = record { running = map runnerWord cores; held = map holderWord cores }
+abbrev pub isRunning : CoreStates.CoreState → Bool
+isRunning coreStates.Idle = false
+isRunning (coreStates.Switching t l) = false
+isRunning (coreStates.Running t s) = true
 
--- what a tick adds to run, ready and blocked ticks
+unfoldable pub coreThreadsOf : List CoreStates.CoreState → CoreThreads
+coreThreadsOf cores = record { held = map holderWord cores; running = map isRunning cores }
+
+-- whether one of the cores that thread i holds runs
+unfoldable pub runsHeld : ℕ → (held : List ℕ) (running : List Bool) → Bool
+runsHeld i [] rs = false
+runsHeld i (h ∷ hs) [] = false
+runsHeld i (h ∷ hs) (r ∷ rs) = (eqb h i && r) || runsHeld i hs rs
+
+-- what a tick adds to the run ticks of a thread on a core, and to ready and blocked ticks of one on no core
 abbrev pub runDue : (runs : Bool) → ℕ
 runDue true = 1
 runDue false = 0
 
-abbrev pub readyDue : (onCore : Bool) → ThreadState → ℕ
-readyDue true s = 0
-readyDue false Ready = 1
-readyDue false Exited = 0
-readyDue false (OnCore i) = 0
-readyDue false (Blocked t) = 0
+abbrev pub readyDue : ThreadState → ℕ
+readyDue Ready = 1
+readyDue Exited = 0
+readyDue (OnCore i) = 0
+readyDue (Blocked t) = 0
 
-abbrev pub blockedDue : (onCore : Bool) → ThreadState → ℕ
-blockedDue true s = 0
-blockedDue false Ready = 0
-blockedDue false Exited = 0
-blockedDue false (OnCore i) = 0
-blockedDue false (Blocked t) = 1
+abbrev pub blockedDue : ThreadState → ℕ
+blockedDue Ready = 0
+blockedDue Exited = 0
+blockedDue (OnCore i) = 0
+blockedDue (Blocked t) = 1
 
 -- the counters that a tick may add to have room for one more
 pub record Chargeable (i : ℕ) (t : ThreadRecord) : Type 0 where

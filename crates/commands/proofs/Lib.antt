@@ -1,2 +1,2 @@
--- What a call line and a line up to `cores=` say.
+-- What a call line says.
 pub mod Saying

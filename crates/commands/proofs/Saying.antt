@@ -1,15 +1,12 @@
--- What the fields say, made a call or a heading: one law for each way that the program leaves.
+-- What the fields say, made a call: one law for each way that the program leaves.
 use Prim.Native.Nat.{ℕ, _≤_, _<_}
 use mathlib.Core.Path.{_≡_, refl, _∙_}
-use mathlib.Core.Option.{some}
 use mathlib.Core.List.{List, [], _∷_}
 use native.Mathlib.Omega.{arith}
-use borrow.Author.Tests.{le-ltb, lt-ltb}
 use lib.ListN.{length}
 use Rattle.model.specs.Calls.{tick}
-use Rattle.text.specs.Lines.{Read, bad, good, mapRead, both, fields, needed, one, two}
-use Rattle.settings.specs.Settings.{Head, CoresKey}
-use Rattle.script.specs.Script.{done, upTo8, coresOf, heading, TickKey, bareTick, callOf}
+use Rattle.text.specs.Lines.{Read, bad, good, mapRead, both, fields, one, two}
+use Rattle.script.specs.Script.{TickKey, bareTick, callOf}
 use Rattle.fields.specs.Fields.{pair}
 
 ---- one field
@@ -69,18 +66,3 @@ pub tick-text : (v : List ℕ) → 0 < length v → callOf TickKey v ≡ bad 6
 unfolding callOf bareTick
 tick-text [] h = absurd (omega arith)
 tick-text (x ∷ v) h = refl
-
----- the number of cores
-
-module _ (h : Head) (v : List ℕ) where
-  pub cores-bad : (k : ℕ) → one (fields v) needed ≡ bad k → heading h (some CoresKey) v ≡ bad k
-  unfolding heading coresOf upTo8 mapRead
-  cores-bad k e = rw e
-
-  pub cores-over : (n : ℕ) → one (fields v) needed ≡ good n → 8 < n → heading h (some CoresKey) v ≡ bad 2
-  unfolding heading coresOf upTo8 mapRead
-  cores-over n e g = rw (e, lt-ltb 8 n g)
-
-  pub cores-good : (n : ℕ) → one (fields v) needed ≡ good n → n ≤ 8 → heading h (some CoresKey) v ≡ good (done (h .settings) n)
-  unfolding heading coresOf upTo8 mapRead
-  cores-good n e g = rw (e, le-ltb 8 n g)

@@ -2,21 +2,16 @@
 use Prim.Native.Nat.{ℕ}
 use mathlib.Core.Option.{Option, none, some}
 use Rattle.text.specs.Lines.{Read, bad, good}
-use Rattle.settings.specs.Reading.{refusalNumber, settingsMeant}
-use Rattle.rcfg.specs.Reading.{headMeant}
+use Rattle.settings.specs.Reading.{refusalNumber}
 use Rattle.model.specs.Calls.{Call, spawn, exit, join, retired, yield, priority, force, tick, close}
 use Rattle.model.specs.Reading.{optionTidMeant}
-use Rattle.script.specs.Script.{CallKey, SpawnKey, ExitKey, JoinKey, RetiredKey, YieldKey, PrioKey, ForceKey, TickKey, CloseKey, Heading, more, done}
+use Rattle.script.specs.Script.{CallKey, SpawnKey, ExitKey, JoinKey, RetiredKey, YieldKey, PrioKey, ForceKey, TickKey, CloseKey}
 use Rattle.commands.specs.declared.Command as Commands
 use Rattle.commands.specs.declared.Command.the-variants as CommandCases
 use Rattle.commands.specs.declared.CallRead as CallReads
 use Rattle.commands.specs.declared.CallRead.the-variants as CallReadCases
 use Rattle.commands.specs.declared.CallKey as CallKeys
 use Rattle.commands.specs.declared.CallKey.the-variants as CallKeyCases
-use Rattle.commands.specs.declared.HeadingRead as HeadingReads
-use Rattle.commands.specs.declared.HeadingRead.the-variants as HeadingReadCases
-
----- calls
 
 abbrev pub callKeyMeant : CallKeys.CallKey → Option CallKey
 callKeyMeant CallKeyCases.Spawn = some SpawnKey
@@ -44,10 +39,3 @@ commandMeant (CommandCases.Close c) = close (c .0)
 abbrev pub callReadMeant : CallReads.CallRead → Read Call
 callReadMeant (CallReadCases.Call c) = good (commandMeant c)
 callReadMeant (CallReadCases.Refused k) = bad (refusalNumber k)
-
----- up to `cores=`
-
-abbrev pub headingReadMeant : HeadingReads.HeadingRead → Read Heading
-headingReadMeant (HeadingReadCases.More h) = good (more (headMeant h))
-headingReadMeant (HeadingReadCases.Done c n) = good (done (settingsMeant c) n)
-headingReadMeant (HeadingReadCases.Refused k) = bad (refusalNumber k)

@@ -1,13 +1,10 @@
-// The lines of a script read by the program: the calls, and what stands up to `cores=`.
+// The call lines of a script read by the program.
 use model::CoreId;
 use model::OptionTid;
 use model::Tid;
-use rcfg::Head;
 use settings::Refusal;
-use settings::SchedConfig;
 
 pub mod calls;
-pub mod heading;
 
 // A call as a script writes it. A thread that is spawned has entry 0.
 pub enum Command {
@@ -40,11 +37,4 @@ pub enum CallKey {
     Tick,
     Close,
     Unknown,
-}
-
-// What a line up to `cores=` makes of the lines before it.
-pub enum HeadingRead {
-    More(Head),
-    Done { config: SchedConfig, cores: u32 },
-    Refused(Refusal),
 }

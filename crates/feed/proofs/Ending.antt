@@ -33,15 +33,15 @@ use Rattle.callkit.proofs.Returned.{Returns}
 use Rattle.sched.proofs.Memory.{At, slice, Token, Slice, Last}
 use Rattle.text.specs.Buffers.{Put}
 use Rattle.model.specs.declared.ThreadInfo.{ThreadInfo}
-use Rattle.records.specs.declared.totals.Totals.{Totals}
+use Rattle.record_reads.specs.declared.totals.Totals.{Totals}
 use Rattle.script.specs.Report.{finish}
 use Rattle.feed_plan.specs.declared.Report.{Report}
 use Rattle.feed_plan.specs.Meant.{reportMeant}
 use Rattle.feed_plan.specs.Feeding.{EndFits, EndAsked}
 use Rattle.feed_plan.proofs.Report as P
 use Rattle.feed_plan.proofs.Report.Laws as P′
-use Rattle.records.proofs.totals.Totals as N
-use Rattle.records.proofs.totals.Totals.Laws as N′
+use Rattle.record_reads.proofs.totals.Totals as N
+use Rattle.record_reads.proofs.totals.Totals.Laws as N′
 use Rattle.feed_plan.proofs.saying.put_end as g
 use Rattle.feed_plan.proofs.saying.put_end.Symbol.{name as #call}
 

@@ -6,9 +6,9 @@ use native.Mathlib.Omega.{arith}
 use lib.ListN.{length}
 use Rattle.text.specs.Buffers.{Put}
 use Rattle.model.specs.declared.ThreadInfo.{ThreadInfo}
-use Rattle.records.specs.declared.totals.Totals.{Totals}
+use Rattle.record_reads.specs.declared.totals.Totals.{Totals}
 use Rattle.model.specs.Accounting.{total}
-use Rattle.records.specs.Totals.{totalsOf, TotalsFit}
+use Rattle.record_reads.specs.Totals.{totalsOf, TotalsFit}
 use Rattle.threads.specs.Slice.{threadsIn}
 use Rattle.state.specs.declared.Sched.{Sched}
 use Rattle.state.specs.State.{meant, Valid}

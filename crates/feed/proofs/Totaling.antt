@@ -32,11 +32,11 @@ use Rattle.walkkit.proofs.Lent.{framed-call}
 use Rattle.callkit.proofs.Returned.{Returns}
 use Rattle.sched.proofs.Memory.{At, slice, Token, Slice, Last}
 use Rattle.model.specs.declared.ThreadInfo.{ThreadInfo}
-use Rattle.records.specs.declared.totals.Totals.{Totals}
-use Rattle.records.specs.Totals.{totalsOf, TotalsFit}
+use Rattle.record_reads.specs.declared.totals.Totals.{Totals}
+use Rattle.record_reads.specs.Totals.{totalsOf, TotalsFit}
 use Rattle.threads.specs.Slice.{threadsIn}
 use Rattle.model.proofs.ThreadInfo as T
-use Rattle.records.proofs.totals.Totals as R
+use Rattle.record_reads.proofs.totals.Totals as R
 use Rattle.threads.proofs.totals as g
 use Rattle.threads.proofs.totals.Symbol.{name as #call}
 

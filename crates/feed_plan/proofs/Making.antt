@@ -12,8 +12,8 @@ use Rattle.model.specs.declared.Tid.{Tid}
 use Rattle.model.specs.declared.JoinOutcome.{JoinOutcome}
 use Rattle.model.specs.declared.CallAnswer.the-variants as CallCases
 use Rattle.model.specs.Reading.{joinMeant, switchesMeant}
-use Rattle.records.specs.declared.totals.Totals.{Totals}
-use Rattle.records.specs.Totals.{totalsOf}
+use Rattle.record_reads.specs.declared.totals.Totals.{Totals}
+use Rattle.record_reads.specs.Totals.{totalsOf}
 use Rattle.threads.specs.Slice.{threadsIn}
 use Rattle.state.specs.declared.Sched.{Sched}
 use Rattle.state.specs.State.{meant, Valid}

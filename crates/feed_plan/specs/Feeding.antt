@@ -6,10 +6,12 @@ use lib.ListN.{length}
 use Rattle.text.specs.Buffers.{Put}
 use Rattle.model.specs.declared.ThreadInfo.{ThreadInfo}
 use Rattle.model.specs.Types.{State}
-use Rattle.records.specs.declared.totals.Totals.{Totals}
-use Rattle.records.specs.Totals.{totalsOf}
+use Rattle.record_reads.specs.declared.totals.Totals.{Totals}
+use Rattle.record_reads.specs.Totals.{totalsOf}
 use Rattle.threads.specs.Slice.{threadsIn}
+use Rattle.state.specs.declared.Sched.{Sched}
 use Rattle.script.specs.Report as Definition
+use Rattle.feed_plan.specs.declared.Reader.{Reader}
 use Rattle.feed_plan.specs.declared.Report.{Report}
 use Rattle.feed_plan.specs.declared.Line.{Line}
 use Rattle.feed_plan.specs.declared.Next.{Next}
@@ -26,6 +28,13 @@ pub record Starts (r : Report) : Type 0 where
 pub record LineRead (r : Report) (piece : List ℕ) (l : Line) : Type 0 where
   pub says : (s : State) → Definition.feed (reportAt r s) piece ≡ fedOf (reportAt r s) l
   pub fits : Fits r l
+
+-- what a line is read by, and a report that it belongs to
+abbrev pub readerOf : Report → Reader
+readerOf r = record { lines = r .lines; stage = r .stage; head = r .head }
+
+abbrev pub reportOf : Reader → Sched → Report
+reportOf k s = record { lines = k .lines; stage = k .stage; head = k .head; sched = s }
 
 -- what taking a line that was read asks
 pub record LineAsked (r : Report) (l : Line) (ts : List ThreadInfo) (qs ps ls ws : List ℕ) : Type 0 where

@@ -29,6 +29,13 @@ pub struct Report {
     pub sched: Sched,
 }
 
+// What a line is read by: the report without its scheduler, which is long.
+pub struct Reader {
+    pub lines: u64,
+    pub stage: Stage,
+    pub head: Head,
+}
+
 // The report after a line, with the number of bytes that the line printed.
 pub struct Fed {
     pub report: Report,

@@ -1,13 +1,14 @@
 // A line read in the stage of its report.
 use crate::Line;
 use crate::Plain;
+use crate::Reader;
 use crate::Report;
 use crate::Stage;
 use commands::CallRead;
 use commands::Command;
-use commands::HeadingRead;
 use commands::calls::read_call;
-use commands::heading::read_head;
+use headings::HeadingRead;
+use headings::heading::read_head;
 use rcfg::Head;
 use sched::Call;
 use settings::Refusal;
@@ -20,10 +21,11 @@ ghost use Rattle.model.specs.Types.{State};
 ghost use Rattle.commands.specs.Reading.{commandMeant};
 ghost use Rattle.script.specs.Report.{lineAt, fed};
 ghost use Rattle.script.specs.Report.{heads as Report·heads, calls as Report·calls};
+ghost use Rattle.state.specs.declared.Sched.{Sched};
 ghost use Rattle.sched.specs.Meant.{callMeant};
 ghost use Rattle.feed_plan.specs.Meant.{Few};
 ghost use Rattle.feed_plan.specs.Steps.{HeadSays, CallSays, fedBy};
-ghost use Rattle.feed_plan.specs.Feeding.{LineRead};
+ghost use Rattle.feed_plan.specs.Feeding.{LineRead, readerOf, reportOf};
 
 // A call as a script writes it is a call; a thread that is spawned has entry 0.
 fn call_of(command: Command) -> Call
@@ -81,17 +83,37 @@ fn read_calling(lines: u64, piece: &[u8]) -> Line
     }
 }
 
-// What a line, its byte 10 included, says in the report's stage.
+pub fn reader_of(r: Report) -> Reader
+    ensures { λ k. ⌜ k ≡ readerOf r ⌝ }
+{
+    let stage = r.stage;
+    let head = r.head;
+    Reader {
+        lines: r.lines,
+        stage,
+        head,
+    }
+}
+
+// What a line, its byte 10 included, says in the report's stage, whatever its scheduler.
+pub fn read_piece(k: Reader, piece: &[u8]) -> Line
+    requires { ⌜ Few (k .stage) (k .lines) ⌝ }
+    ensures { λ l. ⌜ ((s : Sched) → LineRead (reportOf k s) (now (piece .entry)) l) ⌝ }
+{
+    let stage = k.stage;
+    let head = k.head;
+    match stage {
+        Stage::Heads => read_heading(k.lines, head, piece),
+        Stage::Calls => read_calling(k.lines, piece),
+        Stage::Ended => Line::Plain(Plain::Nothing),
+        Stage::Over => Line::Plain(Plain::Nothing),
+    }
+}
+
+// The same, of the whole report.
 pub fn read_line(r: Report, piece: &[u8]) -> Line
     requires { ⌜ Few (r .stage) (r .lines) ⌝ }
     ensures { λ l. ⌜ LineRead r (now (piece .entry)) l ⌝ }
 {
-    let stage = r.stage;
-    let head = r.head;
-    match stage {
-        Stage::Heads => read_heading(r.lines, head, piece),
-        Stage::Calls => read_calling(r.lines, piece),
-        Stage::Ended => Line::Plain(Plain::Nothing),
-        Stage::Over => Line::Plain(Plain::Nothing),
-    }
+    read_piece(reader_of(r), piece)
 }

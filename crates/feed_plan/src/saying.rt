@@ -7,7 +7,7 @@ use output::lines::put_joined;
 use output::lines::put_refused;
 use output::lines::put_switches;
 use output::sums::put_summary_of;
-use records::totals::Totals;
+use record_reads::totals::Totals;
 use sched::Outcome;
 use settings::Refusal;
 ghost use mathlib.Core.Path.{_≡_};

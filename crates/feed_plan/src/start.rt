@@ -2,12 +2,12 @@
 use crate::Report;
 use crate::Stage;
 use crate::steps::capacities;
-use model::CoreState;
 use model::CoreTicks;
 use model::Tick;
 use rcfg::Head;
 use rings::RingPos;
 use settings::SchedConfig;
+use state::CoreWords;
 use state::Eight;
 use state::Sched;
 ghost use Rattle.feed_plan.specs.Feeding.{Starts};
@@ -22,15 +22,20 @@ fn no_sched() -> Sched {
     let empty = RingPos { last: 0, len: 0 };
     let config = SchedConfig::default();
     let sizes = capacities();
+    let idle = CoreWords {
+        kind: 0,
+        tid: 0,
+        count: 0,
+    };
     let states = Eight {
-        c0: CoreState::Idle,
-        c1: CoreState::Idle,
-        c2: CoreState::Idle,
-        c3: CoreState::Idle,
-        c4: CoreState::Idle,
-        c5: CoreState::Idle,
-        c6: CoreState::Idle,
-        c7: CoreState::Idle,
+        c0: idle,
+        c1: idle,
+        c2: idle,
+        c3: idle,
+        c4: idle,
+        c5: idle,
+        c6: idle,
+        c7: idle,
     };
     Sched {
         config,

@@ -1,24 +1,20 @@
 // A load on the scheduler, to be timed beside the same load on the original Rust (differential/speed). Standard input holds seven
 // numbers, one to a line: policy (0 off, 1 fifo, 2 rr, 3 priority), quantum, switch cost, cores, threads, ticks, repetitions.
-// A list of calls is replayed so many times: the spawns by thread 0, then for each tick a `retired` of every core and the tick end.
-// What the last replay left is printed. Memory is lent once: 256 threads, 512 events, 4,096 segments a core.
+// A load is made so many times: `new`, the spawns by thread 0, and then the ticks, in each of which every core reports by `retired` and `end_tick` ends it.
+// What the last repetition left is printed. Memory is lent once: 256 threads, 512 events, 4,096 segments a core.
 use libc::STDIN_FILENO;
 use libc::STDOUT_FILENO;
 use model::CallAnswer;
 use model::ThreadInfo;
 use records::change::first_thread;
-use replay::Replayed;
-use replay_array::ReplayedArray;
-use replay_array::replay_in;
 use settings::SchedConfig;
 use settings::SchedPolicy;
 use state::Capacities;
 use text::Number;
 use text::lines::piece_end;
 use text::numbers::read_number;
-ghost use Prim.Native.Nat.{_≤_};
-
-const CALLS: usize = 60_000;
+use ticking::LoadedArray;
+use ticking::run_load_in;
 
 struct Load {
     config: SchedConfig,
@@ -39,10 +35,7 @@ fn main() {
     let mut input = io::buffer();
     let n = io::read_full(STDIN_FILENO, &mut input);
     let load = load_of(&input[..n]);
-    let mut calls = [0u32; 180_000];
-    let spawned = put_spawns(&mut calls, load.threads);
-    let count = put_ticks(&mut calls, spawned, load.cores, load.ticks);
-    let last = repeat(load, &calls, count);
+    let last = repeat(load);
     report(last);
 }
 
@@ -94,83 +87,19 @@ fn number_of(digits: &[u8]) -> u32 {
     }
 }
 
-// The list's next call, and how many it then has. A full list stays as it is.
-fn put_call(calls: &mut [u32; 180_000], count: usize, kind: u32, first: u32) -> usize
-    ensures { λ r. ⌜ r ≤ 60000 ⌝ }
-{
-    if CALLS <= count {
-        return CALLS;
-    }
-    let at = 3 * count;
-    calls[at] = kind;
-    calls[at + 1] = first;
-    calls[at + 2] = 0;
-    count + 1
-}
-
-// Thread 0 spawns the others.
-fn put_spawns(calls: &mut [u32; 180_000], threads: u32) -> usize {
-    let mut count = 0;
-    let mut i = 1;
-    while i < threads {
-        count = put_call(calls, count, 1, 0);
-        i += 1;
-    }
-    count
-}
-
-// Each core reports, and the tick ends.
-fn put_tick(calls: &mut [u32; 180_000], from: usize, cores: u32) -> usize {
-    let mut count = from;
-    let mut core = 0;
-    while core < cores {
-        count = put_call(calls, count, 4, core);
-        core += 1;
-    }
-    put_call(calls, count, 9, 0)
-}
-
-fn put_ticks(calls: &mut [u32; 180_000], from: usize, cores: u32, ticks: u32) -> usize {
-    let mut count = from;
-    let mut i = 0;
-    while i < ticks {
-        count = put_tick(calls, count, cores);
-        i += 1;
-    }
-    count
-}
-
-// The list is replayed once, and then as often as asked, each time on the memory that the one before left.
-fn repeat(load: Load, calls: &[u32; 180_000], count: usize) -> ReplayedArray {
+// The load is made once, and then as often as asked, each time on the memory that the one before left.
+fn repeat(load: Load) -> LoadedArray {
     let blank = first_thread(0);
     let records = [blank; 256];
     let mut queue = [0u32; 256];
     let mut prios = [0u32; 256];
     let mut log = [0u64; 1024];
     let mut lanes = [0u64; 65_616];
-    let mut last = once(
-        load,
-        calls,
-        count,
-        records,
-        &mut queue,
-        &mut prios,
-        &mut log,
-        &mut lanes,
-    );
+    let mut last = once(load, records, &mut queue, &mut prios, &mut log, &mut lanes);
     let mut left = load.repetitions;
     while 1 < left {
         let threads = last.threads;
-        last = once(
-            load,
-            calls,
-            count,
-            threads,
-            &mut queue,
-            &mut prios,
-            &mut log,
-            &mut lanes,
-        );
+        last = once(load, threads, &mut queue, &mut prios, &mut log, &mut lanes);
         left -= 1;
     }
     last
@@ -178,14 +107,12 @@ fn repeat(load: Load, calls: &[u32; 180_000], count: usize) -> ReplayedArray {
 
 fn once(
     load: Load,
-    calls: &[u32; 180_000],
-    count: usize,
     threads: [ThreadInfo; 256],
     queue: &mut [u32; 256],
     prios: &mut [u32; 256],
     log: &mut [u64; 1024],
     lanes: &mut [u64; 65_616],
-) -> ReplayedArray {
+) -> LoadedArray {
     let config = load.config;
     let cores = load.cores;
     let capacities = Capacities {
@@ -193,13 +120,14 @@ fn once(
         events: 512,
         segments: 4096,
     };
-    replay_in(
+    let count = others(load.threads);
+    let ticks = load.ticks as usize;
+    run_load_in(
         config,
         cores,
         capacities,
-        0,
-        calls,
         count,
+        ticks,
         threads,
         queue,
         prios,
@@ -208,10 +136,18 @@ fn once(
     )
 }
 
-fn report(last: ReplayedArray) {
-    let replayed = last.replayed;
-    let made = replayed.made;
-    let sched = replayed.sched;
+// How many threads there are beside thread 0.
+fn others(threads: u32) -> usize {
+    if threads == 0 {
+        return 0;
+    }
+    (threads - 1) as usize
+}
+
+fn report(last: LoadedArray) {
+    let loaded = last.loaded;
+    let made = loaded.made;
+    let sched = loaded.sched;
     let threads = last.threads;
     let sums = sums_of(threads);
     print_number(b"refused=", refusal_of(made));

@@ -9,7 +9,6 @@ use lib.ListN.{length, take, drop, set, replicate}
 use Rattle.settings.specs.declared.SchedConfig.{SchedConfig}
 use Rattle.settings.specs.Policy.{beyond}
 use Rattle.model.specs.declared.CallAnswer.{CallAnswer}
-use Rattle.model.specs.declared.CoreState.the-variants as CoreStateCases
 use Rattle.model.specs.Types.{Event, Spawned, Dispatched}
 use Rattle.model.specs.Accounting.{newest}
 use Rattle.model.specs.Calls.{check, refusedNew}
@@ -17,9 +16,13 @@ use Rattle.rings.specs.declared.RingPos.{RingPos}
 use Rattle.rings.specs.Ring.{RingOK, capacity}
 use Rattle.rings.specs.Events.{eventsIn}
 use Rattle.state.specs.declared.Capacities.{Capacities}
+use Rattle.state.specs.declared.CoreWords.{CoreWords}
 use Rattle.state.specs.declared.Sched.{Sched}
 use Rattle.state.specs.State.{noTicks, noPos, laneStart}
 use Rattle.checks.specs.Check.{checkMeant}
+
+abbrev idleWords : CoreWords
+idleWords = record { kind = 0; tid = 0; count = 0 }
 
 -- 01: "0 counts as 1"
 unfoldable pub coreCount : ℕ → ℕ
@@ -59,14 +62,14 @@ firstSched c n k =
       «context_switches» = 0;
       closed = false;
       states = record {
-        c0 = CoreStateCases.Running (record { 0 = 0 }) 0;
-        c1 = CoreStateCases.Idle;
-        c2 = CoreStateCases.Idle;
-        c3 = CoreStateCases.Idle;
-        c4 = CoreStateCases.Idle;
-        c5 = CoreStateCases.Idle;
-        c6 = CoreStateCases.Idle;
-        c7 = CoreStateCases.Idle;
+        c0 = record { kind = 2; tid = 0; count = 0 };
+        c1 = idleWords;
+        c2 = idleWords;
+        c3 = idleWords;
+        c4 = idleWords;
+        c5 = idleWords;
+        c6 = idleWords;
+        c7 = idleWords;
       };
       exits = replicate 8 false;
       blocks = replicate 8 false;

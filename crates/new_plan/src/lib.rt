@@ -1,7 +1,6 @@
 // The parts of the call `new` that hold no thread record: what it refuses, the first state, and what is written of priorities and log.
 use model::CallAnswer;
 use model::CoreId;
-use model::CoreState;
 use model::CoreTicks;
 use model::OptionTid;
 use model::SchedEvent;
@@ -14,6 +13,7 @@ use settings::Refusal;
 use settings::SchedConfig;
 use settings::numbers::is_beyond;
 use state::Capacities;
+use state::CoreWords;
 use state::Eight;
 use state::Sched;
 ghost use mathlib.Core.Path.{_≡_};
@@ -136,18 +136,25 @@ fn first_sched(config: SchedConfig, cores: u32, capacities: Capacities) -> Sched
     };
     let empty = RingPos { last: 0, len: 0 };
     let count = core_count(cores);
+    let running = CoreWords {
+        kind: 2,
+        tid: 0,
+        count: 0,
+    };
+    let idle = CoreWords {
+        kind: 0,
+        tid: 0,
+        count: 0,
+    };
     let states = Eight {
-        c0: CoreState::Running {
-            tid: Tid(0),
-            slice: 0,
-        },
-        c1: CoreState::Idle,
-        c2: CoreState::Idle,
-        c3: CoreState::Idle,
-        c4: CoreState::Idle,
-        c5: CoreState::Idle,
-        c6: CoreState::Idle,
-        c7: CoreState::Idle,
+        c0: running,
+        c1: idle,
+        c2: idle,
+        c3: idle,
+        c4: idle,
+        c5: idle,
+        c6: idle,
+        c7: idle,
     };
     Sched {
         config: config,

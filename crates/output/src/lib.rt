@@ -1,5 +1,5 @@
 // The report's text, put into lent buffers: each function puts the text that the definition has for its arguments at a place, and changes
 // nothing before and behind it.
-mod fields;
 pub mod lines;
 pub mod sums;
+mod values;

@@ -1,9 +1,9 @@
 // The lines that calls print: a refusal, a join, the switches of a tick end or of a forced switch.
-use crate::fields::put_decimal;
-use crate::fields::put_maybe;
-use crate::fields::put_out_reason;
-use crate::fields::put_out_tid;
-use crate::fields::put_outcome;
+use crate::values::put_decimal;
+use crate::values::put_maybe;
+use crate::values::put_out_reason;
+use crate::values::put_out_tid;
+use crate::values::put_outcome;
 use model::JoinOutcome;
 use model::OptionOut;
 use model::OptionTid;

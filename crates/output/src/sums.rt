@@ -1,6 +1,6 @@
 // The summary's lines.
-use crate::fields::put_decimal;
-use records::totals::Totals;
+use crate::values::put_decimal;
+use record_reads::totals::Totals;
 use state::Sched;
 use summary::Sums;
 use summary::sums_of;

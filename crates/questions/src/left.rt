@@ -1,11 +1,11 @@
 // What is left to run, from the sums over the thread records (`threads::totals`).
-use records::totals::Totals;
+use record_reads::totals::Totals;
 ghost use mathlib.Core.Path.{_≡_};
 ghost use mathlib.Core.Bool.{not, _&&_};
 ghost use mathlib.Core.List.{List};
 ghost use Rattle.model.specs.Types.{ThreadRecord};
 ghost use Rattle.model.specs.Questions.{anyThread, isLive, isRunnable};
-ghost use Rattle.records.specs.Totals.{totalsOf};
+ghost use Rattle.record_reads.specs.Totals.{totalsOf};
 
 // Some thread has not exited.
 pub fn has_live_threads(t: Totals) -> bool

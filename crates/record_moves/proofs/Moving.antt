@@ -1,22 +1,32 @@
 -- A move's word, and what the moves make of the records.
-use Prim.Native.Nat.{ℕ, zero, suc}
+use Prim.Native.Nat.{ℕ, zero, suc, _≤_}
 use mathlib.Core.Path.{_≡_, refl, ap, _∙_}
 use mathlib.Core.List.{List, [], _∷_}
-use Rattle.model.specs.Types.{Move, starts, leaves, takes, Accounts}
+use native.Mathlib.Omega.{arith}
+use Rattle.model.specs.Types.{Move, starts, leaves, takes, LeaveReason, ThreadRecord, Accounts}
 use Rattle.model.specs.Phases.{update}
-use Rattle.model.specs.Accounting.{logged, applyMove, applyMoves}
+use Rattle.model.specs.Accounting.{started, recordLeave, recordDispatch, logged, applyMove, applyMoves}
 use Rattle.record_moves.specs.Moves.{moveOf, moveTid, movedThread, movedThreads}
 
--- a code that is none of the first seven: a start
-pub is-start : (code core tid : ℕ) → (code ≡ 0 → ⊥) → (code ≡ 1 → ⊥) → (code ≡ 2 → ⊥) → (code ≡ 3 → ⊥) → (code ≡ 4 → ⊥) → (code ≡ 5 → ⊥) → (code ≡ 6 → ⊥) → moveOf code core tid ≡ starts tid
-is-start zero core tid a b c d e f g = absurd (a refl)
-is-start (suc zero) core tid a b c d e f g = absurd (b refl)
-is-start (suc (suc zero)) core tid a b c d e f g = absurd (c refl)
-is-start (suc (suc (suc zero))) core tid a b c d e f g = absurd (d refl)
-is-start (suc (suc (suc (suc zero)))) core tid a b c d e f g = absurd (e refl)
-is-start (suc (suc (suc (suc (suc zero))))) core tid a b c d e f g = absurd (f refl)
-is-start (suc (suc (suc (suc (suc (suc zero)))))) core tid a b c d e f g = absurd (g refl)
-is-start (suc (suc (suc (suc (suc (suc (suc n))))))) core tid a b c d e f g = refl
+-- what a word makes of a record, by its code
+pub leave-is : (code core tid now : ℕ) (r : LeaveReason) (t : ThreadRecord) → leaves tid core r ≡ moveOf code core tid → recordLeave now core r t ≡ movedThread now (moveOf code core tid) t
+unfolding movedThread
+leave-is code core tid now r t e = ap (λ (m : Move). movedThread now m t) e
+
+pub take-is : (code core tid now : ℕ) (t : ThreadRecord) → code ≡ 6 → recordDispatch now core t ≡ movedThread now (moveOf code core tid) t
+unfolding movedThread
+take-is code core tid now t e = rw e
+
+pub start-is : (code core tid now : ℕ) (t : ThreadRecord) → 6 ≤ code → (code ≡ 6 → ⊥) → started now t ≡ movedThread now (moveOf code core tid) t
+unfolding movedThread
+start-is (suc (suc (suc (suc (suc (suc zero)))))) core tid now t l f = absurd (f refl)
+start-is (suc (suc (suc (suc (suc (suc (suc n))))))) core tid now t l f = refl
+start-is zero core tid now t l f = absurd (omega (arith, l))
+start-is (suc zero) core tid now t l f = absurd (omega (arith, l))
+start-is (suc (suc zero)) core tid now t l f = absurd (omega (arith, l))
+start-is (suc (suc (suc zero))) core tid now t l f = absurd (omega (arith, l))
+start-is (suc (suc (suc (suc zero)))) core tid now t l f = absurd (omega (arith, l))
+start-is (suc (suc (suc (suc (suc zero))))) core tid now t l f = absurd (omega (arith, l))
 
 -- whose record a word is about
 pub tid-of : (code core tid : ℕ) → tid ≡ moveTid (moveOf code core tid)

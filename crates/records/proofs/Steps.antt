@@ -5,9 +5,8 @@ use mathlib.Core.Option.{Option, none, some}
 use Prim.Native.Nat.{ℕ, _+_, _<_, _^_}
 use native.Mathlib.Nat.{add-zero}
 use native.Mathlib.Omega.{arith}
-use borrow.Author.Tests.{eq-eqb}
-use Rattle.model.specs.Types.{ThreadRecord, ThreadState, Ready, Exited, OnCore, Blocked, LeaveReason, Config}
-use Rattle.model.specs.Calls.{outcome, Invalid, initialState}
+use Rattle.model.specs.Types.{ThreadRecord, Ready, Exited, OnCore, LeaveReason, Config}
+use Rattle.model.specs.Calls.{initialState}
 use Rattle.model.specs.Accounting.{addCounts, setCounts, setState, setLast, setTimes, finished, started, recordLeave, recordDispatch, left, born, orElse}
 use Rattle.records.specs.Changes.{firstThread}
 
@@ -62,14 +61,6 @@ first-room entry t e = subst (λ (n : ℕ). n + 1 < 2 ^ 64) (sym (ap (λ (x : Th
 pub first-step : (entry : ℕ) (t u r : ThreadRecord) → t ≡ born 0 none entry 10 0 → u ≡ recordDispatch 0 0 t → r ≡ started 0 u → r ≡ firstThread entry
 unfolding recordDispatch started born addCounts
 first-step entry t u r p q e = e ∙ ap (started 0) (q ∙ ap (recordDispatch 0 0) p)
-
--- a join of oneself
-pub of-self : (self target : ℕ) (s : ThreadState) → target ≡ self → Invalid ≡ outcome self target (some s)
-unfolding outcome
-of-self self target Ready e = rw (eq-eqb target self e)
-of-self self target Exited e = rw (eq-eqb target self e)
-of-self self target (OnCore i) e = rw (eq-eqb target self e)
-of-self self target (Blocked u) e = rw (eq-eqb target self e)
 
 -- the one thread that a new scheduler has
 pub initial-thread : (cores entry : ℕ) (k : Config) → initialState cores entry k .accounts .threads ≡ firstThread entry ∷ []

@@ -181,7 +181,7 @@ fn first_or(t: OptionTick, now: Tick) -> OptionTick
     }
 }
 
-fn ran_first(t: ThreadInfo, now: Tick) -> ThreadInfo
+pub fn ran_first(t: ThreadInfo, now: Tick) -> ThreadInfo
     ensures { λ r. ⌜ threadMeant r ≡ started (now .0) (threadMeant t) ⌝ }
 {
     let s = t.stats;
@@ -218,7 +218,7 @@ fn off_core(t: ThreadInfo, reason: LeaveReason) -> ThreadInfo
     }
 }
 
-fn departed(t: ThreadInfo, now: Tick, core: CoreId, reason: LeaveReason) -> ThreadInfo
+pub fn departed(t: ThreadInfo, now: Tick, core: CoreId, reason: LeaveReason) -> ThreadInfo
     requires { ⌜ threadMeant t .counts .preemptions + 1 < 2 ^ 64 ⌝ }
     ensures { λ r. ⌜ threadMeant r ≡ recordLeave (now .0) (core .0) (reasonMeant reason) (threadMeant t) ⌝ }
 {
@@ -231,7 +231,7 @@ fn departed(t: ThreadInfo, now: Tick, core: CoreId, reason: LeaveReason) -> Thre
     with_leave(u, OptionLeave::Some(leave))
 }
 
-fn dispatched(t: ThreadInfo, now: Tick, core: CoreId) -> ThreadInfo
+pub fn dispatched(t: ThreadInfo, now: Tick, core: CoreId) -> ThreadInfo
     requires { ⌜ threadMeant t .counts .dispatches + 1 < 2 ^ 64 ⌝ }
     ensures { λ r. ⌜ threadMeant r ≡ recordDispatch (now .0) (core .0) (threadMeant t) ⌝ }
 {

@@ -1,5 +1,7 @@
 -- Parts of the walks.
 pub mod Leaping
+pub mod Pieces
+pub mod Keeping
 pub mod Taking
 pub mod Advancing
 pub mod Passing

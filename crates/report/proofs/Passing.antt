@@ -35,7 +35,8 @@ use Rattle.feed_plan.specs.declared.Line.{Line}
 use Rattle.feed_plan.specs.declared.Next.{Next}
 use Rattle.feed_plan.specs.Meant.{reportMeant, ReportValid}
 use Rattle.report_io.specs.declared.Upcoming.{Upcoming}
-use Rattle.report_io.specs.Blocks.{Roomy, Awaits, Printable}
+use Rattle.report_io.specs.Blocks as Blocks
+use Rattle.report_io.specs.Blocks.{Roomy, Printable}
 use Rattle.walkkit.proofs.Again.{at-list, LentAgain, SharedAgain, relends, regains, reshares, unshares}
 use Rattle.walkkit.proofs.Lent.{Gives, framed-call, call-value}
 use Rattle.callkit.proofs.Returned.{Returns}
@@ -77,7 +78,7 @@ pub record Passed : Type 0 where
   pub blocks : List ℕ
 
 pub record PassedAs (u : Upcoming) (x : Next) (bs : List ℕ) (w : Val) (y : Passed) : Type 0 where
-  pub claim : Awaits (x .report) (y .blocks) (y .upcoming) × (u .place .turn < y .upcoming .place .turn)
+  pub claim : Blocks.Passed u x bs (y .blocks) (y .upcoming)
   pub val-is : y .val ≡ w
   pub is : Is U.the-row (y .upcoming) (w ∷ [])
   pub long : length (y .blocks) ≡ length bs
@@ -158,7 +159,7 @@ module _ {M : Type 1} (𝓤 : URA M) (H : Heap 𝓤) (A : Atoms 𝓤) (mem : Mem
           Last = Unit {0} × (Unit {0} × (List ℕ × Unit {0}))
 
           abbrev Said : Upcoming → Last → Type 0
-          Said r ys = Awaits (x .report) (ys .1 .1 .0) r × (u .place .turn < r .place .turn)
+          Said r ys = Blocks.Passed u x bs (ys .1 .1 .0) r
 
           told-pass : (w : Val) → ent 𝓤 (Pass .post to-pass w) (mean 𝓤 H A (Returns 𝓤 Passed (PassedAs u x bs) Left w))
           told-pass w =

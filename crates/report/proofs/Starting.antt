@@ -66,7 +66,7 @@ pub record Out : Type 0 where
   pub lists : Lists
 
 pub record Told (bs : List ℕ) (m : Lists) (w : Val) (x : Out) : Type 0 where
-  pub claim : Finished (x .lists .qs) (x .lists .ps) (x .lists .ls) (x .lists .ws)
+  pub claim : Finished (x .blocks) (x .lists .qs) (x .lists .ps) (x .lists .ls) (x .lists .ws)
   pub is : w ∷ [] ≡ vunit ∷ []
   pub records : Is Ts (x .lists .ts) (tmach (x .lists .ts) ∷ [])
   pub blocks : length (x .blocks) ≡ length bs
@@ -119,7 +119,7 @@ module _ {M : Type 1} (𝓤 : URA M) (H : Heap 𝓤) (A : Atoms 𝓤) (mem : Mem
       Lasts = Unit {0} × (Unit {0} × (Unit {0} × (List ThreadInfo × (List ℕ × (List ℕ × (List ℕ × (List ℕ × (List ℕ × Unit {0}))))))))
 
       abbrev Said : Lasts → Type 0
-      Said xs = Finished (xs .1 .1 .1 .1 .1 .0) (xs .1 .1 .1 .1 .1 .1 .0) (xs .1 .1 .1 .1 .1 .1 .1 .0) (xs .1 .1 .1 .1 .1 .1 .1 .1 .0)
+      Said xs = Finished (xs .1 .1 .1 .1 .0) (xs .1 .1 .1 .1 .1 .0) (xs .1 .1 .1 .1 .1 .1 .0) (xs .1 .1 .1 .1 .1 .1 .1 .0) (xs .1 .1 .1 .1 .1 .1 .1 .1 .0)
 
       after : (ν : ℕ) (δ : GName) (w : Val) → ent 𝓤 (⋆ 𝓤 H A (raw (Met .post (ghost-of ν δ) w) ∷ Back ν δ ∷ [])) (mean 𝓤 H A (Returns 𝓤 Out (Told bs m) (λ x. Cell l (x .lists .ts) ⊛ Left x) w))
       after ν δ w =

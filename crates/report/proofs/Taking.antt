@@ -1,12 +1,13 @@
 -- A turn of the report program, without its memory: the next line may be taken, what it prints fits, and what is known before the next turn.
 use mathlib.Core.Path.{_≡_, refl, sym, ap, subst, _∙_}
-use Prim.Native.Nat.{ℕ, _+_, _-_, _<_, _≤_}
+use Prim.Native.Nat.{ℕ, _+_, _<_, _≤_}
 use native.Mathlib.Omega.{arith}
-use mathlib.Core.List.{List, []}
-use lib.ListN.{length, take, drop, replicate, length-replicate}
+use mathlib.Core.List.{List, [], append-nil}
+use lib.ListN.{length, replicate, length-replicate}
 use lib.Seq.{paste}
 use Rattle.model.specs.declared.ThreadInfo.{ThreadInfo}
 use Rattle.text.specs.Buffers.{Put}
+use Rattle.text.specs.Lines.{cut}
 use Rattle.state.specs.State.{meant}
 use Rattle.script.specs.Report as Definition
 use Rattle.script.proofs.Room.{finish-well}
@@ -20,12 +21,13 @@ use Rattle.feed_plan.specs.Steps.{fedOf, nextText}
 use Rattle.feed_plan.specs.Feeding.{Starts, LineRead, LineAsked, LineDone, Sayable, SaidAs}
 use Rattle.feed_plan.proofs.Feeding.{lines-few, line-asked, sayable, feed-done}
 use Rattle.report_io.specs.declared.Upcoming.{Upcoming}
-use Rattle.report_io.specs.Blocks.{Roomy, Standing, Awaits, Printable}
+use Rattle.report_io.specs.Blocks.{Roomy, lastTurn, firstOf, Standing, Awaits, Printable, Passed}
 use Rattle.sched.proofs.Memory.{Lists, Long}
-use Rattle.report.specs.Running.{Runnable}
+use Rattle.report.specs.Running.{SoFar, Runnable}
+use Rattle.report.proofs.Keeping.{kept}
 
 abbrev limit : ℕ
-limit = 1_000_000_000_001
+limit = lastTurn
 
 abbrev ValidIn : Report → Lists → Type 0
 ValidIn r m = ReportValid r (m .ts) (m .qs) (m .ps) (m .ls) (m .ws)
@@ -37,14 +39,14 @@ abbrev DoneIn : Report → Line → Lists → Lists → Next → Type 0
 DoneIn r c m z x = LineDone r c (m .ts) (z .ts) (m .qs) (z .qs) (m .ps) (z .ps) (m .ls) (z .ls) (m .ws) (z .ws) x
 
 module _ (r : Report) (u : Upcoming) (i : ℕ) (c : Line) (m : Lists) (bs : List ℕ) (less : i < limit) (runs : RunsIn r u i m bs) (e : c ≡ u .line) where
-  standing : Standing r bs u
+  standing : Standing r (runs .awaits .ahead) bs u
   standing = runs .awaits .line (subst (λ (t : ℕ). t < limit) (runs .turns) less)
 
   abbrev piece : List ℕ
-  piece = take (u .place .at - standing .from) (drop (standing .from) bs)
+  piece = firstOf (cut (runs .awaits .ahead))
 
   reads : LineRead r piece c
-  reads = subst (LineRead r piece) (sym e) (standing .reads)
+  reads = subst (LineRead r piece) (sym e) (subst (λ (l : List ℕ). LineRead r (firstOf (cut l)) (u .line)) (append-nil (runs .awaits .ahead)) (standing .reads [] (λ h. refl)))
 
   -- the line may be taken
   pub asked : LineAsked r c (m .ts) (m .qs) (m .ps) (m .ls) (m .ws)
@@ -82,23 +84,24 @@ module _ (r : Report) (u : Upcoming) (i : ℕ) (c : Line) (m : Lists) (bs : List
     )
 
     -- and what is known before the next turn
-    pub goes-on′ : (v : Upcoming) (bs′ : List ℕ) (r′ : Report) (t : ℕ) → Awaits (x .report) bs′ v × (u .place .turn < v .place .turn) → length bs′ ≡ length bs → r′ ≡ x .report → t ≡ v .place .turn → RunsIn r′ v t z bs′ × (i < t) × (t ≤ limit)
+    pub goes-on′ : (v : Upcoming) (bs′ : List ℕ) (r′ : Report) (t : ℕ) → Passed u x bs bs′ v → length bs′ ≡ length bs → r′ ≡ x .report → t ≡ v .place .turn → RunsIn r′ v t z bs′ × (i < t) × (t ≤ limit)
     goes-on′ v bs′ r′ t claim′ long′ e′ turn = (
       record {
         valid = subst (λ (y : Report). ValidIn y z) (sym e′) valid-next;
-        awaits = subst (λ (y : Report). Awaits y bs′ v) (sym e′) (claim′ .0);
+        awaits = subst (λ (y : Report). Awaits y bs′ v) (sym e′) (claim′ .awaits);
         turns = turn;
         room = subst (λ (k : ℕ). 131_072 ≤ k) (sym long′) (runs .room);
+        so-far = subst (λ (y : Report). SoFar y v (z .ts) bs′ (z .qs) (z .ls) (z .ws)) (sym e′) (kept r u m bs (runs .so-far) (subst (λ (t : ℕ). t < limit) (runs .turns) less) (runs .awaits .ahead) (standing .some) c says-it x z claim v bs′ claim′);
       },
       later-turn,
-      subst (λ (k : ℕ). k ≤ limit) (sym turn) (claim′ .0 .roomy .within .turns),
+      subst (λ (k : ℕ). k ≤ limit) (sym turn) (claim′ .awaits .roomy .within .turns),
     )
       where
         later-turn : i < t
-        later-turn = subst (λ (k : ℕ). i < k) (sym turn) (subst (λ (k : ℕ). k < v .place .turn) (sym (runs .turns)) (claim′ .1))
+        later-turn = subst (λ (k : ℕ). i < k) (sym turn) (subst (λ (k : ℕ). k < v .place .turn) (sym (runs .turns)) (claim′ .on))
 
 pub goes-on : (r : Report) (u : Upcoming) (i : ℕ) (c : Line) (m : Lists) (bs : List ℕ) (x : Next) (z : Lists) (v : Upcoming) (bs′ : List ℕ) (r′ : Report) (t : ℕ) → i < limit → RunsIn r u i m bs → c ≡ u .line → DoneIn r c m z x → Long m z
-    → Awaits (x .report) bs′ v × (u .place .turn < v .place .turn) → length bs′ ≡ length bs → r′ ≡ x .report → t ≡ v .place .turn → RunsIn r′ v t z bs′ × (i < t) × (t ≤ limit)
+    → Passed u x bs bs′ v → length bs′ ≡ length bs → r′ ≡ x .report → t ≡ v .place .turn → RunsIn r′ v t z bs′ × (i < t) × (t ≤ limit)
 goes-on r u i c m bs x z v bs′ r′ t less runs e claim long claim′ long′ e′ turn = goes-on′ r u i c m bs less runs e x z claim long v bs′ r′ t claim′ long′ e′ turn
 
 -- what stands at the end is short

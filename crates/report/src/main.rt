@@ -84,7 +84,7 @@ fn start(
     lanes: &mut [u64],
 )
     requires { ⌜ Runnable first upcoming turn threads (now blocks) (now queue) (now prios) (now log) (now lanes) ⌝ }
-    ensures { λ _. ⌜ Finished (now (queue .exit)) (now (prios .exit)) (now (log .exit)) (now (lanes .exit)) ⌝ }
+    ensures { λ _. ⌜ Finished (now (blocks .exit)) (now (queue .exit)) (now (prios .exit)) (now (log .exit)) (now (lanes .exit)) ⌝ }
 {
     let mut records = threads;
     run(
@@ -113,7 +113,7 @@ fn run(
     lanes: &mut [u64],
 )
     requires { ⌜ Runnable first upcoming turn (now threads) (now blocks) (now queue) (now prios) (now log) (now lanes) ⌝ }
-    ensures { λ _. ⌜ Finished (now (queue .exit)) (now (prios .exit)) (now (log .exit)) (now (lanes .exit)) ⌝ }
+    ensures { λ _. ⌜ Finished (now (blocks .exit)) (now (queue .exit)) (now (prios .exit)) (now (log .exit)) (now (lanes .exit)) ⌝ }
 {
     let mut r = first;
     let mut u = upcoming;

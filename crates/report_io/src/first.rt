@@ -3,15 +3,16 @@ use crate::Place;
 use crate::Upcoming;
 use crate::input::next_line;
 use feed_plan::Report;
+use feed_plan::reading::reader_of;
 ghost use Prim.Native.Nat.{_≤_};
 ghost use lib.ListN.{length};
 ghost use Rattle.feed_plan.specs.Meant.{Few};
-ghost use Rattle.report_io.specs.Blocks.{Awaits};
+ghost use Rattle.report_io.specs.Blocks.{beginning, NextLine};
 
 // The first line of the script.
 pub fn first_line(r: Report, blocks: &mut [u8]) -> Upcoming
     requires { ⌜ Few (r .stage) (r .lines) × (131_072 ≤ length (now blocks)) ⌝ }
-    ensures { λ u. ⌜ Awaits r (now (blocks .exit)) u ⌝ }
+    ensures { λ u. ⌜ NextLine r beginning (now (blocks .entry)) (now (blocks .exit)) u ⌝ }
 {
     let place = Place {
         at: 0,
@@ -21,5 +22,5 @@ pub fn first_line(r: Report, blocks: &mut [u8]) -> Upcoming
         all_written: true,
         turn: 0,
     };
-    next_line(r, place, blocks)
+    next_line(reader_of(r), place, blocks)
 }

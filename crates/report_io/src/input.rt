@@ -3,21 +3,24 @@ use crate::BLOCK;
 use crate::MAX_TURNS;
 use crate::Place;
 use crate::Upcoming;
-use bytes::scan::find;
 use feed_plan::Line;
 use feed_plan::Plain;
-use feed_plan::Report;
-use feed_plan::reading::read_line;
+use feed_plan::Reader;
+use feed_plan::reading::read_piece;
 use libc::STDIN_FILENO;
+use text::lines::piece_end;
 ghost use mathlib.Core.Path.{_≡_};
 ghost use Prim.Native.Nat.{_+_, _<_, _≤_, min};
 ghost use lib.ListN.{length};
+ghost use Rattle.state.specs.declared.Sched.{Sched};
 ghost use Rattle.feed_plan.specs.Meant.{Few};
-ghost use Rattle.report_io.specs.Blocks.{Within, Roomy, Awaits};
+ghost use Rattle.feed_plan.specs.Feeding.{reportOf};
+ghost use Rattle.report_io.specs.Blocks.{Roomy, noLine, broughtFront, Refilled, Filled, LineEnd, NextLine};
 
 // The n bytes from `at` on go to the front.
 fn move_rest(blocks: &mut [u8], at: usize, n: usize)
     requires { ⌜ at + n ≤ length (now blocks) ⌝ }
+    ensures { λ _. ⌜ now (blocks .exit) ≡ broughtFront at n (now (blocks .entry)) ⌝ }
 {
     let mut i = 0;
     while i < n {
@@ -29,7 +32,7 @@ fn move_rest(blocks: &mut [u8], at: usize, n: usize)
 // The rest of the block goes to the front, and more of the script behind it.
 fn refill(blocks: &mut [u8], at: usize, end: usize) -> usize
     requires { ⌜ (at ≤ end) × (end ≤ 65_536) × (131_072 ≤ length (now blocks)) ⌝ }
-    ensures { λ r. ⌜ r ≤ 65_536 ⌝ }
+    ensures { λ r. ⌜ Refilled at end (now (blocks .entry)) (now (blocks .exit)) r ⌝ }
 {
     let rest = end - at;
     let limit = BLOCK;
@@ -40,7 +43,7 @@ fn refill(blocks: &mut [u8], at: usize, end: usize) -> usize
 // A line's length and one byte more stand in the block, or the script's end.
 fn filled(p: Place, blocks: &mut [u8]) -> Place
     requires { ⌜ Roomy p × (131_072 ≤ length (now blocks)) ⌝ }
-    ensures { λ r. ⌜ Roomy r × (r .turn ≡ p .turn) ⌝ }
+    ensures { λ r. ⌜ Filled p (now (blocks .entry)) (now (blocks .exit)) r ⌝ }
 {
     if p.all_read {
         return p;
@@ -71,20 +74,16 @@ fn fewer(a: usize, b: usize) -> usize
 // Past the line's byte 10. A line that is too long is given up at its 257th byte.
 fn line_end(blocks: &[u8], at: usize, end: usize) -> usize
     requires { ⌜ (at < end) × (end ≤ 65_536) × (131_072 ≤ length (now blocks)) ⌝ }
-    ensures { λ r. ⌜ (at < r) × (r ≤ end) ⌝ }
+    ensures { λ r. ⌜ LineEnd at end (now (blocks .entry)) r ⌝ }
 {
     let most = fewer(at + 257, end);
-    let p = find(blocks, at, most, 10);
-    if p < most {
-        return p + 1;
-    }
-    most
+    piece_end(&blocks[..most], at)
 }
 
 // No line follows.
 pub fn last(p: Place) -> Upcoming
     requires { ⌜ Roomy p ⌝ }
-    ensures { λ u. ⌜ Roomy (u .place) × (u .place .turn ≡ 1_000_000_000_001) ⌝ }
+    ensures { λ u. ⌜ Roomy (u .place) × (u ≡ noLine p) ⌝ }
 {
     let place = Place {
         at: p.at,
@@ -99,9 +98,9 @@ pub fn last(p: Place) -> Upcoming
 }
 
 // The next line, where one follows.
-pub fn next_line(r: Report, before: Place, blocks: &mut [u8]) -> Upcoming
-    requires { ⌜ Few (r .stage) (r .lines) × Roomy before × (131_072 ≤ length (now blocks)) ⌝ }
-    ensures { λ u. ⌜ Awaits r (now (blocks .exit)) u × (before .turn ≤ u .place .turn) ⌝ }
+pub fn next_line(k: Reader, before: Place, blocks: &mut [u8]) -> Upcoming
+    requires { ⌜ Few (k .stage) (k .lines) × Roomy before × (131_072 ≤ length (now blocks)) ⌝ }
+    ensures { λ u. ⌜ ((s : Sched) → NextLine (reportOf k s) before (now (blocks .entry)) (now (blocks .exit)) u) ⌝ }
 {
     let p = filled(before, blocks);
     let at = p.at;
@@ -110,7 +109,7 @@ pub fn next_line(r: Report, before: Place, blocks: &mut [u8]) -> Upcoming
         return last(p);
     }
     let stop = line_end(blocks, at, end);
-    let line = read_line(r, &blocks[at..stop]);
+    let line = read_piece(k, &blocks[at..stop]);
     let place = Place {
         at: stop,
         end,

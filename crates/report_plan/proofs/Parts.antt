@@ -21,7 +21,7 @@ use Rattle.feed_plan.specs.declared.Stage.{Stage}
 use Rattle.feed_plan.specs.declared.Stage.the-variants as StageCases
 use Rattle.feed_plan.specs.declared.Report.{Report}
 use Rattle.feed_plan.specs.Meant.{reportMeant}
-use Rattle.records.specs.declared.totals.Totals.{Totals}
+use Rattle.record_reads.specs.declared.totals.Totals.{Totals}
 use Rattle.script.specs.Report.{finish}
 use Rattle.script.proofs.Room.{Kept, finish-well}
 use Rattle.feed_plan.specs.declared.Next.{Next}
@@ -109,7 +109,7 @@ module _ (x : Next) (b : List ℕ) (at : ℕ) (h : at ≤ length b) (k : Sayable
     pub progress-put : Put b at (nextText x) (putMid at (length b - at) b c) (at + n)
     progress-put = put-part b at h (nextText x) c n (subst (λ (l : List ℕ). Put l 0 (nextText x) c n) (part-is b at h) p)
 
-end-room : (r : Report) (ts : List ThreadInfo) (qs ls ws b : List ℕ) → Kept (reportMeant r ts qs ls ws .lines) (reportMeant r ts qs ls ws .stage) → (Prints (r .stage) → 400 ≤ length b) → length (finish (reportMeant r ts qs ls ws)) ≤ length b
+pub end-room : (r : Report) (ts : List ThreadInfo) (qs ls ws b : List ℕ) → Kept (reportMeant r ts qs ls ws .lines) (reportMeant r ts qs ls ws .stage) → (Prints (r .stage) → 400 ≤ length b) → length (finish (reportMeant r ts qs ls ws)) ≤ length b
 end-room r ts qs ls ws b k h = go (r .stage) refl
   where
     go : (g : Stage) → r .stage ≡ g → length (finish (reportMeant r ts qs ls ws)) ≤ length b

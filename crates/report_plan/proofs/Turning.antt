@@ -3,7 +3,7 @@ use Prim.Native.Nat.{ℕ, suc, _+_, _-_, _≤_}
 use mathlib.Core.Path.{_≡_, refl, sym, ap, _∙_, subst}
 use mathlib.Core.List.{List}
 use native.Mathlib.Omega.{arith}
-use lib.ListN.{length, drop, length-drop}
+use lib.ListN.{length, drop, length-drop, replicate, length-replicate}
 use lib.Seq.{paste}
 use Rattle.text.specs.Buffers.{Put}
 use Rattle.model.specs.declared.ThreadInfo.{ThreadInfo}
@@ -38,6 +38,11 @@ module _ (p : Progress) (script b : List ℕ) (ts : List ThreadInfo) (qs ps ls w
       pub turn-sayable : Sayable x (drop (p .at) b)
       turn-sayable = sayable (p .report) (piece p q script) ts qs ps ls ws (a .valid) (q .line) ts' qs' ps' ls' ws' x turn-says c (drop (p .at) b) (omega (arith, a .room, length-drop (p .at) b))
 
+      turn-short : length (nextText x) ≤ 288
+      turn-short =
+          subst (λ (k : ℕ). length (nextText x) ≤ k) (length-replicate {A = ℕ} 288 0)
+          (sayable (p .report) (piece p q script) ts qs ps ls ws (a .valid) (q .line) ts' qs' ps' ls' ws' x turn-says c (replicate 288 0) (subst (λ (k : ℕ). 288 ≤ k) (sym (length-replicate {A = ℕ} 288 0)) (omega arith)) .long)
+
       pub turn-done : Roomy ts' qs' ps' ls' ws' → (b' : List ℕ) (y : Progress) → ProgressedAs p q x b b' y → NextDone p script b b' ts ts' qs qs' ps ps' ls ls' ws ws' y
       turn-done m b' y s =
           let f : Fed = record { report = x .report; written = 0 + length (nextText x) } in
@@ -50,5 +55,6 @@ module _ (p : Progress) (script b : List ℕ) (ts : List ThreadInfo) (qs ps ls w
             within = rw (s .from) (k .within);
             report = ap (λ (r : Report). reportMeant r ts' qs' ls' ws') (s .report) ∙ d .report;
             text = subst (λ (t : List ℕ). Put b (p .at) t b' (y .at)) (c .text ∙ sym (ap (λ (g : Definition.Fed). g .out) turn-says)) (s .text);
+            short = omega (arith, s .text .end, turn-short);
             valid = subst (λ (r : Report). ReportValid r ts' qs' ps' ls' ws') (sym (s .report)) (d .valid);
           }

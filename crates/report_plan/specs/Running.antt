@@ -10,7 +10,7 @@ use Rattle.settings.specs.declared.Refusal.the-variants as RefusalCases
 use Rattle.rcfg.specs.declared.Written.{Written}
 use Rattle.rcfg.specs.declared.Written.the-variants as WrittenCases
 use Rattle.model.specs.declared.ThreadInfo.{ThreadInfo}
-use Rattle.records.specs.declared.totals.Totals.{Totals}
+use Rattle.record_reads.specs.declared.totals.Totals.{Totals}
 use Rattle.script.specs.Report as Definition
 use Rattle.feed_plan.specs.declared.Next.{Next}
 use Rattle.feed_plan.specs.Meant.{reportMeant, Roomy, ReportValid}

@@ -24,6 +24,7 @@ pub record NextDone (p : Progress) (script b b' : List ℕ) (ts ts' : List Threa
   pub within : y .from ≤ length script
   pub report : reportMeant (y .report) ts' qs' ls' ws' ≡ counting (Definition.feed (reportMeant (p .report) ts qs ls ws) piece .report)
   pub text : Put b (p .at) (Definition.feed (reportMeant (p .report) ts qs ls ws) piece .out) b' (y .at)
+  pub short : y .at ≤ p .at + 288
   pub valid : ReportValid (y .report) ts' qs' ps' ls' ws'
 
 -- what the end of a script asks; after a refusal before the calls nothing is printed, and no room is asked

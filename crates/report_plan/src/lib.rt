@@ -8,7 +8,7 @@ use feed_plan::saying::put_end;
 use feed_plan::saying::put_text;
 use feed_plan::start::start;
 use rcfg::Written;
-use records::totals::Totals;
+use record_reads::totals::Totals;
 use settings::Refusal;
 use text::lines::piece_end;
 ghost use mathlib.Core.Path.{_≡_};

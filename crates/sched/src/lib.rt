@@ -74,7 +74,11 @@ pub fn apply(
         Call::Spawn(parent, entry_pc) => {
             of_spawn(spawn(s, parent, entry_pc, threads, queue, prios, log))
         }
-        Call::Exit(core) => of_answered(exit(s, core, threads, queue, log)),
+        // Here and at `Close` a copy: the callee is not inlined and takes its address. Without it every call would store the state first.
+        Call::Exit(core) => {
+            let t = s;
+            of_answered(exit(t, core, threads, queue, log))
+        }
         Call::Join(core, target) => of_join(join(s, core, target, threads)),
         Call::Retired(core) => of_answered(retired(s, core)),
         Call::YieldNow(core) => of_answered(yield_now(s, core, threads)),
@@ -88,6 +92,9 @@ pub fn apply(
             of_ticked(force_switch(s, core, named, threads, queue, prios, log, lanes))
         }
         Call::EndTick => of_ticked(end_tick(s, threads, queue, prios, log, lanes)),
-        Call::Close(core) => of_answered(close(s, core, threads, queue, log, lanes)),
+        Call::Close(core) => {
+            let t = s;
+            of_answered(close(t, core, threads, queue, log, lanes))
+        }
     }
 }

@@ -30,9 +30,9 @@ unfolding retiredRefusal
 retired-place s i h = leb-false (s .cores) i (check-none 4 _ _ h)
 
 module _ (s : Sched) (ts : List ThreadInfo) (qs ps ls ws : List ℕ) (v : Valid s ts qs ps ls ws) where
-  pub retired-taken : (i : ℕ) (a : Answer) → a ≡ ok → retiredRefusal s i ≡ none → Done (retired i) a s (withProgressed (set (s .progressed) i true) s) ts ts qs qs ps ps ls ls ws ws
+  retired-done : (i : ℕ) (a : Answer) → a ≡ ok → retiredRefusal s i ≡ none → Done (retired i) a s (withProgressed (set (s .progressed) i true) s) ts ts qs qs ps ps ls ls ws ws
   unfolding accept meant coreFrom
-  retired-taken i a e h =
+  retired-done i a e h =
       done-taken (retired i) s ts qs ps ls ws v a (withProgressed (set (s .progressed) i true) s) ts qs ps ls ws (retired-refusal s ts qs ls ws i ∙ h)
       (ap (λ (cs : List Core). record { config = meant s ts qs ls ws .config; cores = cs; queue = meant s ts qs ls ws .queue; accounts = meant s ts qs ls ws .accounts; now = s .now .0; closed = s .closed }) marked)
       e (ok-unrefused a e) (v .sizes) (v .rings) marks (v .ticks) (v .priorities)
@@ -64,6 +64,9 @@ module _ (s : Sched) (ts : List ThreadInfo) (qs ps ls ws : List ℕ) (v : Valid 
             progressed = simp length-set (m .progressed);
             unused = λ j k. ap (λ (b : Bool). with-mark j b) (getD-set-other (s .progressed) i j true false (λ z. omega (arith, l))) ∙ m .unused j k;
           }
+
+  pub retired-taken : (i : ℕ) (a : Answer) (marks : List Bool) → marks ≡ set (s .progressed) i true → a ≡ ok → retiredRefusal s i ≡ none → Done (retired i) a s (withProgressed marks s) ts ts qs qs ps ps ls ls ws ws
+  retired-taken i a marks m e h = subst (λ (p : List Bool). Done (retired i) a s (withProgressed p s) ts ts qs qs ps ps ls ls ws ws) (sym m) (retired-done i a e h)
 
   pub timing-taken : (q w : ℕ) (k : SchedConfig) (a : Answer) → a ≡ ok → timingRefusal s q w ≡ none → k .policy ≡ s .config .policy → k .quantum ≡ max q 1 → k .«switch_cost» ≡ w → Done (timing q w) a s (withConfig k s) ts ts qs qs ps ps ls ls ws ws
   unfolding accept meant

@@ -6,8 +6,10 @@ use model::CallAnswer;
 use model::CoreId;
 use state::Sched;
 ghost use mathlib.Core.Path.{_≡_};
+ghost use mathlib.Core.Bool.{true};
 ghost use mathlib.Core.List.{List};
-ghost use Prim.Native.Nat.{ℕ, _≤_, max};
+ghost use Prim.Native.Nat.{ℕ, _<_, _≤_, max};
+ghost use lib.ListN.{set};
 ghost use Rattle.model.specs.declared.ThreadInfo.{ThreadInfo};
 ghost use Rattle.model.specs.Reading.{callAnswerMeant};
 ghost use Rattle.model.specs.Calls as Calls;
@@ -28,13 +30,30 @@ pub fn retired(s: Sched, core: CoreId) -> Answered
         },
         CallAnswer::Taken => {
             let i = core.0 as usize;
-            next.progressed[i] = true;
+            let progressed = s.progressed;
+            let marked = with_mark(progressed, i);
+            next.progressed = marked;
             Answered {
                 sched: next,
                 answer,
             }
         }
     }
+}
+
+// One mark set. Each place is asked, so that none is found by an index: an index into the state would keep all of it in memory, and a byte stored
+// by one would have to be waited for.
+fn with_mark(marks: [bool; 8], i: usize) -> [bool; 8]
+    requires { ⌜ i < 8 ⌝ }
+    ensures { λ r. ⌜ r ≡ set marks i true ⌝ }
+{
+    let mut m = marks;
+    for k in 0..8 {
+        if k == i {
+            m[k] = true;
+        }
+    }
+    m
 }
 
 // "`set_timing` turns quantum 0 into 1."

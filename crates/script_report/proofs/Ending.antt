@@ -32,14 +32,14 @@ use Rattle.walkkit.proofs.Lent.{framed-call}
 use Rattle.callkit.proofs.Returned.{Returns}
 use Rattle.sched.proofs.Memory.{At, slice, Token, Slice, Last}
 use lib.ListN.{drop as drop-list}
-use Rattle.records.specs.declared.totals.Totals.{Totals}
+use Rattle.record_reads.specs.declared.totals.Totals.{Totals}
 use Rattle.feed_plan.specs.Feeding.{EndAsked}
 use Rattle.report_plan.specs.declared.Progress.{Progress}
 use Rattle.report_plan.specs.Running.{EndedAs}
 use Rattle.report_plan.proofs.Progress as P
 use Rattle.report_plan.proofs.Progress.Laws as P′
-use Rattle.records.proofs.totals.Totals as N
-use Rattle.records.proofs.totals.Totals.Laws as N′
+use Rattle.record_reads.proofs.totals.Totals as N
+use Rattle.record_reads.proofs.totals.Totals.Laws as N′
 use Rattle.report_plan.proofs.put_finish as g
 use Rattle.report_plan.proofs.put_finish.Symbol.{name as #call}
 

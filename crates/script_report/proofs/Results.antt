@@ -5,7 +5,7 @@ use mathlib.Core.List.{List}
 use native.Mathlib.Omega.{arith}
 use lib.ListN.{length, drop, length-drop}
 use Rattle.text.specs.Buffers.{Put}
-use Rattle.records.specs.Totals.{totalsOf, TotalsFit}
+use Rattle.record_reads.specs.Totals.{totalsOf, TotalsFit}
 use Rattle.threads.specs.Slice.{threadsIn}
 use Rattle.script.specs.Report.{finish}
 use Rattle.model.specs.declared.ThreadInfo.{ThreadInfo}

@@ -1,3 +1,4 @@
 pub mod Whole
 pub mod Firsts
 pub mod Doing
+pub mod Words

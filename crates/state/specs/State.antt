@@ -24,12 +24,22 @@ use Rattle.rings.specs.Ring.{RingOK}
 use Rattle.rings.specs.Events.{eventsIn}
 use Rattle.rings.specs.Timeline.{segmentsIn}
 use Rattle.model.specs.Calls.{idleCore}
+use Rattle.state.specs.declared.CoreWords.{CoreWords}
 use Rattle.state.specs.declared.Eight.{Eight}
 use Rattle.state.specs.declared.Capacities.{Capacities}
 use Rattle.state.specs.declared.Sched.{Sched}
 
+-- a core state by its three words
+abbrev pub stateFrom : (kind tid count : ℕ) → Program.CoreState
+stateFrom zero t n = CoreStateCases.Idle
+stateFrom (suc zero) t n = CoreStateCases.Switching (record { 0 = t }) n
+stateFrom (suc (suc k)) t n = CoreStateCases.Running (record { 0 = t }) n
+
+abbrev pub stateIn : CoreWords → Program.CoreState
+stateIn w = stateFrom (w .kind) (w .tid) (w .count)
+
 abbrev pub statesOf : Eight → List Program.CoreState
-statesOf e = e .c0 ∷ e .c1 ∷ e .c2 ∷ e .c3 ∷ e .c4 ∷ e .c5 ∷ e .c6 ∷ e .c7 ∷ []
+statesOf e = stateIn (e .c0) ∷ stateIn (e .c1) ∷ stateIn (e .c2) ∷ stateIn (e .c3) ∷ stateIn (e .c4) ∷ stateIn (e .c5) ∷ stateIn (e .c6) ∷ stateIn (e .c7) ∷ []
 
 abbrev pub noTicks : Counters.CoreTicks
 noTicks = record { busy = 0; switching = 0; idle = 0 }

@@ -3,23 +3,32 @@
 use model::CoreState;
 use model::CoreTicks;
 use model::Tick;
+use model::Tid;
 use rings::RingPos;
 use settings::SchedConfig;
 ghost use mathlib.Core.Path.{_≡_};
 ghost use lib.ListN.{getD};
 ghost use Rattle.model.specs.declared.CoreState.the-variants;
-ghost use Rattle.state.specs.State.{statesOf};
+ghost use Rattle.state.specs.State.{stateIn, statesOf};
+
+// A core state in three words: idle, switching or running by `kind`, the thread, and its `left` or `slice`. A copy of an enum moves the bytes behind its tag
+// one by one, and the state is copied in each call.
+pub struct CoreWords {
+    pub kind: u32,
+    pub tid: u32,
+    pub count: u32,
+}
 
 // The core states between calls: an array of enums can't be a field (docs/DECISIONS.md). In the phases they are an array of eight.
 pub struct Eight {
-    pub c0: CoreState,
-    pub c1: CoreState,
-    pub c2: CoreState,
-    pub c3: CoreState,
-    pub c4: CoreState,
-    pub c5: CoreState,
-    pub c6: CoreState,
-    pub c7: CoreState,
+    pub c0: CoreWords,
+    pub c1: CoreWords,
+    pub c2: CoreWords,
+    pub c3: CoreWords,
+    pub c4: CoreWords,
+    pub c5: CoreWords,
+    pub c6: CoreWords,
+    pub c7: CoreWords,
 }
 
 // T, E and S, as `new` was given them.
@@ -48,31 +57,70 @@ pub struct Sched {
     pub lanes: [RingPos; 8],
 }
 
+pub fn words_of(s: CoreState) -> CoreWords
+    ensures { λ r. ⌜ stateIn r ≡ s ⌝ }
+{
+    match s {
+        CoreState::Idle => CoreWords {
+            kind: 0,
+            tid: 0,
+            count: 0,
+        },
+        CoreState::Switching { tid, left } => CoreWords {
+            kind: 1,
+            tid: tid.0,
+            count: left,
+        },
+        CoreState::Running { tid, slice } => CoreWords {
+            kind: 2,
+            tid: tid.0,
+            count: slice,
+        },
+    }
+}
+
+pub fn state_in(w: CoreWords) -> CoreState
+    ensures { λ r. ⌜ r ≡ stateIn w ⌝ }
+{
+    let kind = w.kind;
+    let tid = Tid(w.tid);
+    if kind == 0 {
+        return CoreState::Idle;
+    }
+    if kind == 1 {
+        return CoreState::Switching { tid, left: w.count };
+    }
+    CoreState::Running {
+        tid,
+        slice: w.count,
+    }
+}
+
 pub fn unpack(e: Eight) -> [CoreState; 8]
     ensures { λ r. ⌜ r ≡ statesOf e ⌝ }
 {
-    let c0 = e.c0;
-    let c1 = e.c1;
-    let c2 = e.c2;
-    let c3 = e.c3;
-    let c4 = e.c4;
-    let c5 = e.c5;
-    let c6 = e.c6;
-    let c7 = e.c7;
+    let c0 = state_in(e.c0);
+    let c1 = state_in(e.c1);
+    let c2 = state_in(e.c2);
+    let c3 = state_in(e.c3);
+    let c4 = state_in(e.c4);
+    let c5 = state_in(e.c5);
+    let c6 = state_in(e.c6);
+    let c7 = state_in(e.c7);
     [c0, c1, c2, c3, c4, c5, c6, c7]
 }
 
 pub fn pack(a: [CoreState; 8]) -> Eight
     ensures { λ r. ⌜ statesOf r ≡ a ⌝ }
 {
-    let c0 = a[0];
-    let c1 = a[1];
-    let c2 = a[2];
-    let c3 = a[3];
-    let c4 = a[4];
-    let c5 = a[5];
-    let c6 = a[6];
-    let c7 = a[7];
+    let c0 = words_of(a[0]);
+    let c1 = words_of(a[1]);
+    let c2 = words_of(a[2]);
+    let c3 = words_of(a[3]);
+    let c4 = words_of(a[4]);
+    let c5 = words_of(a[5]);
+    let c6 = words_of(a[6]);
+    let c7 = words_of(a[7]);
     Eight {
         c0: c0,
         c1: c1,

@@ -10,7 +10,7 @@ use Rattle.model.specs.declared.ThreadInfo.{ThreadInfo}
 use Rattle.model.specs.Accounting.{Sums, sums}
 use Rattle.model.specs.Questions.{mean, Figures, figures}
 use Rattle.model.proofs.Figures.{mean-nearest}
-use Rattle.records.specs.declared.totals.Totals.{Totals}
+use Rattle.record_reads.specs.declared.totals.Totals.{Totals}
 use Rattle.state.specs.declared.Sched.{Sched}
 use Rattle.state.specs.State.{meant}
 use Rattle.summary.specs.declared.SchedSummary.{SchedSummary}

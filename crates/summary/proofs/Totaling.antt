@@ -14,9 +14,9 @@ use Rattle.model.specs.Accounting.{total, one, since, Sums, sums}
 use Rattle.model.specs.Calls.{limitNow, limitSwitches}
 use Rattle.model.specs.Reading.{threadMeant, coreTicksMeant}
 use Rattle.model.proofs.Bounded.{AllL, Between, ThreadIn, TicksIn, all-map}
-use Rattle.records.specs.declared.totals.Totals.{Totals}
-use Rattle.records.specs.Totals.{totalsOf, TotalsFit}
-use Rattle.records.proofs.Summing.{totals-fit}
+use Rattle.record_reads.specs.declared.totals.Totals.{Totals}
+use Rattle.record_reads.specs.Totals.{totalsOf, TotalsFit}
+use Rattle.record_reads.proofs.Summing.{totals-fit}
 use Rattle.threads.specs.Slice.{threadsIn}
 use Rattle.state.specs.declared.Sched.{Sched}
 use Rattle.state.specs.State.{firsts, noTicks, meant, Valid}

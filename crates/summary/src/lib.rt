@@ -1,7 +1,7 @@
 // The summary: exact sums over threads and cores, and the four figures, each one division of two sums.
 use model::CoreTicks;
 use model::Tick;
-use records::totals::Totals;
+use record_reads::totals::Totals;
 use state::Sched;
 ghost use mathlib.Core.Path.{_≡_};
 ghost use mathlib.Core.List.{List};

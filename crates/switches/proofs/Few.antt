@@ -1,9 +1,8 @@
 -- A switch list has at most one entry for each core, so eight cores need no more than eight.
 -- Assumes nothing.
 use Prim.Native.Nat.{ℕ, zero, suc, _/_, _%_, _≤_, _<_}
-use mathlib.Core.Path.{_≡_, refl, sym, ap, subst}
+use mathlib.Core.Path.{_≡_, refl, sym, subst}
 use mathlib.Core.Bool.{Bool, true, false, cond}
-use mathlib.Core.Option.{none}
 use mathlib.Core.Logic.{_≢_}
 use mathlib.Core.List.{List, [], _∷_, map}
 use native.Mathlib.Omega.{arith}
@@ -18,10 +17,11 @@ use Rattle.model.proofs.PhaseLaws.{or-false, or-false-l, or-false-r, not-both}
 use Rattle.model.proofs.Preempt.{AllN}
 use Rattle.model.proofs.ThreadStates.{Once, map-all, without-out, without-once, without-all}
 use Rattle.queue.specs.Words.{moveOf, decode, movesIn}
+use Rattle.switches.proofs.Cores.{cores, added, touch-cores}
 
 ---- moves on cores below n
 
-CoreBelow : ℕ → Move → Type 0
+abbrev pub CoreBelow : ℕ → Move → Type 0
 CoreBelow n (starts t) = Unit {0}
 CoreBelow n (leaves t c r) = c < n
 CoreBelow n (takes t c) = c < n
@@ -32,7 +32,6 @@ CoresBelow n (m ∷ ms) = CoreBelow n m × CoresBelow n ms
 
 -- a word's core is below eight, whatever the word
 moveOf-below : (code c t : ℕ) → c < 8 → CoreBelow 8 (moveOf code c t)
-unfolding CoreBelow
 moveOf-below zero c t l = l
 moveOf-below (suc zero) c t l = l
 moveOf-below (suc (suc zero)) c t l = l
@@ -42,28 +41,15 @@ moveOf-below (suc (suc (suc (suc (suc zero))))) c t l = l
 moveOf-below (suc (suc (suc (suc (suc (suc zero)))))) c t l = l
 moveOf-below (suc (suc (suc (suc (suc (suc (suc n))))))) c t l = tt
 
+pub word-below : (w : ℕ) → CoreBelow 8 (decode w)
+word-below w = moveOf-below (w % 8) (w / 8 % 8) (w / 8 / 8 % 4294967296) (omega arith)
+
 words-below : (l : List ℕ) → CoresBelow 8 (map decode l)
 unfolding CoresBelow
 words-below [] = tt
-words-below (w ∷ l) = (moveOf-below (w % 8) (w / 8 % 8) (w / 8 / 8 % 4294967296) (omega arith), words-below l)
+words-below (w ∷ l) = (word-below w, words-below l)
 
 ---- one entry for each core touched
-
-abbrev cores : List SwitchEntry → List ℕ
-cores es = map (λ (e : SwitchEntry). e .core) es
-
-added : ℕ → List ℕ → List ℕ
-added i [] = i ∷ []
-added i (c ∷ cs) = cond (eqb c i) (c ∷ cs) (c ∷ added i cs)
-
-touch-cores : (i : ℕ) (f : SwitchEntry → SwitchEntry) → ((e : SwitchEntry) → f e .core ≡ e .core) → (es : List SwitchEntry) → cores (touched i f es) ≡ added i (cores es)
-unfolding touched added
-touch-cores i f k [] = ap (λ (c : ℕ). c ∷ []) (k (record { core = i; out = none; inn = none }))
-touch-cores i f k (e ∷ es) = go (eqb (e .core) i) (touch-cores i f k es)
-  where
-    go : (b : Bool) → cores (touched i f es) ≡ added i (cores es) → cores (cond b (f e ∷ es) (e ∷ touched i f es)) ≡ cond b (e .core ∷ cores es) (e .core ∷ added i (cores es))
-    go true r = ap (λ (c : ℕ). c ∷ cores es) (k e)
-    go false r = ap (λ (l : List ℕ). e .core ∷ l) r
 
 added-elem : (h i : ℕ) (cs : List ℕ) → elem h cs ≡ false → eqb i h ≡ false → elem h (added i cs) ≡ false
 unfolding elem added
@@ -103,7 +89,7 @@ touch-distinct : (n i : ℕ) (f : SwitchEntry → SwitchEntry) → ((e : SwitchE
 touch-distinct n i f k l es d = subst (Distinct n) (sym (touch-cores i f k es)) (record { once = added-once i (cores es) (d .once); below = added-all _ i (cores es) (d .below) l })
 
 switchList-distinct : (n : ℕ) (ms : List Move) (es : List SwitchEntry) → CoresBelow n ms → Distinct n (cores es) → Distinct n (cores (switchList es ms))
-unfolding switchList CoreBelow CoresBelow
+unfolding switchList CoresBelow
 switchList-distinct n [] es m d = d
 switchList-distinct n (starts t ∷ ms) es m d = switchList-distinct n ms es (m .1) d
 switchList-distinct n (leaves t i r ∷ ms) es m d = switchList-distinct n ms _ (m .1) (touch-distinct n i _ (λ e. refl) (m .0) es d)

@@ -1,2 +1,3 @@
+pub mod Cores
 pub mod Few
-pub mod Touch
+pub mod Stored

@@ -7,13 +7,13 @@ use model::SwitchOut;
 use queue::moves;
 use queue::moves::Move;
 ghost use mathlib.Core.Path.{_≡_};
-ghost use mathlib.Core.List.{_∷_, []};
-ghost use Prim.Native.Nat.{_+_, _<_, _≤_};
-ghost use lib.ListN.{length, getD, set};
+ghost use mathlib.Core.List.{[]};
+ghost use Prim.Native.Nat.{_+_, _<_, _≤_, min, max};
+ghost use lib.ListN.{length};
 ghost use Rattle.model.specs.Reading.{switchMeant, switchesMeant};
 ghost use Rattle.model.specs.Accounting.{switchList};
 ghost use Rattle.queue.specs.Words.{movesIn, moveMeant};
-ghost use Rattle.switches.specs.Slots.{untouched, Slot};
+ghost use Rattle.switches.specs.Entries.{coreTouched, entryAfter};
 
 // The list is entries[..count].
 pub struct SwitchList {
@@ -21,111 +21,68 @@ pub struct SwitchList {
     pub count: usize,
 }
 
-// The place of a core's entry among the first n; n where it has none.
-fn switch_place(entries: [Switch; 8], n: usize, core: CoreId) -> usize
-    requires { ⌜ n ≤ 8 ⌝ }
-    ensures { λ r. ⌜ Slot (core .0) (switchesMeant entries n) r ⌝ }
-{
-    let es = entries;
-    let mut i: usize = 0;
-    while i < n {
-        let e = es[i];
-        if e.core.0 == core.0 {
-            return i;
-        }
-        i += 1;
-    }
-    i
-}
-
-// The entry at a place; behind the first n, one of a core that has not been touched.
-fn switch_slot(entries: [Switch; 8], n: usize, at: usize, core: CoreId) -> Switch
-    requires { ⌜ n ≤ 8 ⌝ }
-    ensures old { λ r. ⌜ (at < n → switchMeant r ≡ getD (switchesMeant entries n) at (untouched 0)) ⌝ }
-    ensures new { λ r. ⌜ (n ≤ at → switchMeant r ≡ untouched (core .0)) ⌝ }
-{
-    let es = entries;
-    if at < n {
-        let e = es[at];
-        return e;
-    }
-    Switch {
-        core: core,
-        out: OptionOut::None,
-        inn: OptionTid::None,
-    }
-}
-
-// An entry is stored at a place, or appended.
-fn stored(entries: [Switch; 8], n: usize, at: usize, e: Switch) -> SwitchList
-    requires { ⌜ (at < 8) × (at ≤ n) × (n ≤ 8) ⌝ }
-    ensures entries { λ r. ⌜ r .entries ≡ set entries at e ⌝ }
-    ensures old { λ r. ⌜ (at < n → r .count ≡ n) ⌝ }
-    ensures new { λ r. ⌜ (n ≤ at → r .count ≡ n + 1) ⌝ }
-{
-    let mut es = entries;
-    es[at] = e;
-    if at < n {
-        return SwitchList {
-            entries: es,
-            count: n,
-        };
-    }
-    SwitchList {
-        entries: es,
-        count: n + 1,
-    }
-}
-
-// The list of the first n entries after one move more.
-fn with_move(entries: [Switch; 8], n: usize, m: Move) -> SwitchList
-    requires { ⌜ (n ≤ 8) × (length (switchList (switchesMeant entries n) (moveMeant m ∷ [])) ≤ 8) ⌝ }
-    ensures list { λ r. ⌜ switchesMeant (r .entries) (r .count) ≡ switchList (switchesMeant entries n) (moveMeant m ∷ []) ⌝ }
-    ensures fits { λ r. ⌜ (r .count ≤ 8) × (length (r .entries) ≡ 8) ⌝ }
+// The core that a move touches; 8: none.
+fn core_touched(m: Move) -> usize
+    ensures { λ r. ⌜ r ≡ coreTouched (moveMeant m) ⌝ }
 {
     match m {
-        Move::Starts { tid: _ } => SwitchList {
-            entries: entries,
-            count: n,
-        },
+        Move::Starts { tid: _ } => 8,
+        Move::Leaves {
+            tid: _,
+            core,
+            reason: _,
+        } => core.0 as usize,
+        Move::Takes { tid: _, core } => core.0 as usize,
+    }
+}
+
+// The entry of the core that a move touches, after the move.
+fn entry_after(e: Switch, m: Move) -> Switch
+    ensures { λ r. ⌜ switchMeant r ≡ entryAfter (moveMeant m) (switchMeant e) ⌝ }
+{
+    match m {
+        Move::Starts { tid: _ } => e,
         Move::Leaves { tid, core, reason } => {
-            let at = switch_place(entries, n, core);
-            let e = switch_slot(entries, n, at, core);
-            let first = e.core;
             let inn = e.inn;
-            let out = OptionOut::Some(SwitchOut {
-                tid: tid,
-                reason: reason,
-            });
-            stored(
-                entries,
-                n,
-                at,
-                Switch {
-                    core: first,
-                    out: out,
-                    inn: inn,
-                },
-            )
+            Switch {
+                core: core,
+                out: OptionOut::Some(SwitchOut {
+                    tid: tid,
+                    reason: reason,
+                }),
+                inn: inn,
+            }
         }
         Move::Takes { tid, core } => {
-            let at = switch_place(entries, n, core);
-            let e = switch_slot(entries, n, at, core);
-            let first = e.core;
             let out = e.out;
-            let inn = OptionTid::Some(tid);
-            stored(
-                entries,
-                n,
-                at,
-                Switch {
-                    core: first,
-                    out: out,
-                    inn: inn,
-                },
-            )
+            Switch {
+                core: core,
+                out: out,
+                inn: OptionTid::Some(tid),
+            }
         }
     }
+}
+
+// A core's entry stands at its place; it is the one behind the last where the core has none.
+fn entry_place(place: usize, count: usize) -> usize
+    ensures { λ r. ⌜ r ≡ min place count ⌝ }
+{
+    if place < count {
+        return place;
+    }
+    count
+}
+
+// The count after a store at a place: one more where the entry is new.
+fn entry_count(count: usize, at: usize) -> usize
+    requires { ⌜ at < 8 ⌝ }
+    ensures { λ r. ⌜ r ≡ max count (at + 1) ⌝ }
+{
+    if at < count {
+        return count;
+    }
+    at + 1
 }
 
 // The switch list of the first n moves. Each core has at most one entry, so eight are enough.
@@ -140,14 +97,22 @@ pub fn switch_list(out: &[u64], n: usize) -> SwitchList
         inn: OptionTid::None,
     };
     let mut entries = [none; 8];
+    // where a core's entry stands; 8: nowhere yet
+    let mut places = [8usize; 8];
     let mut count: usize = 0;
     let mut k: usize = 0;
     while k < n {
         let m = moves::move_at(out, k);
-        let list = with_move(entries, count, m);
-        entries = list.entries;
-        count = list.count;
         k += 1;
+        let c = core_touched(m);
+        if 8 <= c {
+            continue;
+        }
+        let at = entry_place(places[c], count);
+        let e = entries[at];
+        entries[at] = entry_after(e, m);
+        places[c] = at;
+        count = entry_count(count, at);
     }
     SwitchList {
         entries: entries,

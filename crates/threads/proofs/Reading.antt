@@ -9,8 +9,8 @@ use Rattle.model.specs.declared.ThreadInfo.{ThreadInfo}
 use Rattle.model.specs.Types.{ThreadRecord}
 use Rattle.model.specs.Calls.{priorityOf}
 use Rattle.model.specs.Reading.{threadMeant}
-use Rattle.records.specs.Totals.{totalsOf, addTotals, TotalsFit}
-use Rattle.records.proofs.Summing.{totals-back, totals-front}
+use Rattle.record_reads.specs.Totals.{totalsOf, addTotals, TotalsFit}
+use Rattle.record_reads.proofs.Summing.{totals-back, totals-front}
 use Rattle.walkkit.specs.Firsts.{firsts}
 use Rattle.walkkit.proofs.Firsts.{drop-firsts}
 use Rattle.threads.specs.Slice.{blank, threadsIn, prioritiesIn, Filled}

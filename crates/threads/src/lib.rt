@@ -1,16 +1,16 @@
-// The thread records, a lent slice in thread order. These few functions apply in place what `records` has by value, and read no field of a
-// record themselves: each is proved by hand.
+// The thread records, a lent slice in thread order. These few functions apply in place what `records` and the crates beside it have by
+// value, and read no field of a record themselves: each is proved by hand.
 use charges::charge;
 use model::CoreState;
 use model::ThreadInfo;
 use model::Tick;
 use model::Tid;
 use record_moves::moves;
+use record_reads::read;
+use record_reads::totals;
+use record_reads::totals::Totals;
 use records::change;
 use records::change::Change;
-use records::read;
-use records::totals;
-use records::totals::Totals;
 ghost use mathlib.Core.Path.{_≡_};
 ghost use Prim.Native.Nat.{ℕ, _+_, _<_, _≤_};
 ghost use lib.ListN.{length, getD, set};
@@ -19,7 +19,7 @@ ghost use Rattle.model.specs.Accounting.{chargeThreads};
 ghost use Rattle.model.specs.Phases;
 ghost use Rattle.charges.specs.Charging.{coresMeant};
 ghost use Rattle.record_moves.specs.Moves.{movesIn, movedThreads};
-ghost use Rattle.records.specs.Totals.{totalsOf, TotalsFit};
+ghost use Rattle.record_reads.specs.Totals.{totalsOf, TotalsFit};
 ghost use Rattle.records.specs.Changes.{changeMeant, Fits};
 ghost use Rattle.threads.specs.Slice.{blank, threadsIn, Front, AllChargeable, tidAt, MovesFit, WakeFit, Woken, prioritiesIn, Filled};
 

@@ -2,3 +2,4 @@ pub mod Range
 pub mod Reading
 pub mod Ticking
 pub mod Parts
+pub mod Quiet

@@ -13,20 +13,25 @@ use decide::tick::decide;
 use model::CallAnswer;
 use model::CoreState;
 use model::Tick;
+use quiet::is_quiet;
+use quiet::sliced_states;
 use state::Sched;
 use state::pack;
 use state::unpack;
 use switches::switch_list;
 ghost use mathlib.Core.Path.{_≡_};
-ghost use mathlib.Core.List.{List};
+ghost use mathlib.Core.Bool.{true};
+ghost use mathlib.Core.List.{List, []};
 ghost use mathlib.Core.Option.{none};
-ghost use Prim.Native.Nat.{ℕ, _+_, _<_, _^_};
+ghost use Prim.Native.Nat.{ℕ, _+_, _<_, _≤_, _^_};
 ghost use lib.ListN.{length};
 ghost use Rattle.model.specs.declared.ThreadInfo.{ThreadInfo};
 ghost use Rattle.model.specs.Reading.{switchAnswerMeant};
 ghost use Rattle.model.specs.declared.CallAnswer.the-variants as CallCases;
 ghost use Rattle.queue.specs.Words.{movesIn};
-ghost use Rattle.state.specs.State.{statesOf, Valid};
+ghost use Rattle.state.specs.State.{statesOf, logWords, Valid};
+ghost use Rattle.rings.specs.Ring.{RingOK};
+ghost use Rattle.quiet.specs.Quiet.{isQuiet, Roomy};
 ghost use Rattle.checks.specs.Check.{tickRefusal};
 ghost use Rattle.tick_plan.specs.Plan.{tickThreads, tickedSched, ChargeFits, ChargedOf, PlanFits, PlannedOf, WriteFits, WrittenOf, TickPending};
 
@@ -205,6 +210,59 @@ fn after_tick(s: Sched, tick: Tick, c: Charged, p: Planned, w: Written) -> Sched
     }
 }
 
+// What a tick decides that switches nothing: each running core's slice grows.
+fn plan_quiet(s: Sched) -> Planned
+    requires { ⌜ (s .cores ≤ 8) × (isQuiet s ≡ true) × Roomy s ⌝ }
+    ensures { λ r. ⌜ (r .moves ≡ 0) × ((qs ps ws : List ℕ) → PlannedOf s qs qs ps ws ws r) ⌝ }
+{
+    let states = sliced_states(s);
+    let exits = s.exits;
+    let blocks = s.blocks;
+    let yields = s.yields;
+    let progressed = s.progressed;
+    Planned {
+        states,
+        exits,
+        blocks,
+        yields,
+        progressed,
+        queued: s.queued,
+        moves: 0,
+    }
+}
+
+// What no moves come to.
+fn write_nothing(s: Sched, lanes: &[u64]) -> Written
+    ensures { λ r. ⌜ (r .takes ≡ 0) × ((tick : ℕ) (ls : List ℕ) → RingOK (logWords (s .capacities .events) ls) (s .log) → WrittenOf s tick [] ls ls r) ⌝ }
+{
+    let log = s.log;
+    let switches = switch_list(lanes, 0);
+    Written {
+        log,
+        takes: 0,
+        switches,
+    }
+}
+
+// The rest of a tick end that switches nothing, after the charging: queue, log and lanes stay as they are.
+fn tick_quiet(s: Sched, answer: CallAnswer, charged: Charged, lanes: &[u64]) -> Decided
+    requires { ⌜ (s .cores ≤ 8) × (isQuiet s ≡ true) × Roomy s × (s .now .0 + 1 < 2 ^ 64) ⌝ }
+    ensures answer { λ r. ⌜ r .answer ≡ answer ⌝ }
+    ensures pending { λ r. ⌜ ((ts : List ThreadInfo) (qs ps ls ws ws' : List ℕ) → Valid s ts qs ps ls ws → tickRefusal s ≡ none → ChargedOf s ws ws' charged → answer ≡ CallCases.Taken → TickPending (switchAnswerMeant (r .answer) (r .switches .entries) (r .switches .count)) s (r .sched) (r .moves) ts qs qs ps ls ls ws ws') ⌝ }
+{
+    let planned = plan_quiet(s);
+    let tick = next_tick(s);
+    let written = write_nothing(s, lanes);
+    let sched = after_tick(s, tick, charged, planned, written);
+    let switches = written.switches;
+    Decided {
+        sched,
+        answer,
+        switches,
+        moves: planned.moves,
+    }
+}
+
 // A tick end that is not refused.
 fn tick_taken(
     s: Sched,
@@ -219,6 +277,9 @@ fn tick_taken(
     ensures pending { λ r. ⌜ ((ts : List ThreadInfo) → Valid s ts (now (queue .entry)) (now (prios .entry)) (now (log .entry)) (now (lanes .entry)) → answer ≡ CallCases.Taken → TickPending (switchAnswerMeant (r .answer) (r .switches .entries) (r .switches .count)) s (r .sched) (r .moves) ts (now (queue .entry)) (now (queue .exit)) (now (prios .entry)) (now (log .entry)) (now (log .exit)) (now (lanes .entry)) (now (lanes .exit))) ⌝ }
 {
     let charged = charge(s, lanes);
+    if is_quiet(s) {
+        return tick_quiet(s, answer, charged, lanes);
+    }
     let planned = plan(s, queue, prios, lanes);
     let tick = next_tick(s);
     let written = write(s, log, lanes, planned.moves, tick);

@@ -20,8 +20,8 @@ use Rattle.state.specs.State.{Valid}
 use Rattle.checks.specs.Check.{checkMeant}
 use Rattle.new_plan.specs.First.{newRefusal, isShort, coreCount}
 use Rattle.new_plan.specs.Made.{NewDone}
-use Rattle.records.specs.declared.totals.Totals.{Totals}
-use Rattle.records.specs.Totals.{totalsOf, addTotals}
+use Rattle.record_reads.specs.declared.totals.Totals.{Totals}
+use Rattle.record_reads.specs.Totals.{totalsOf, addTotals}
 use Rattle.threads.specs.Slice.{blank, threadsIn}
 use Rattle.threads.proofs.Reading.{sums-next}
 

@@ -8,10 +8,11 @@ use settings::SchedPolicy;
 use text::put::put;
 ghost use Prim.Native.Nat.{_≤_};
 ghost use lib.ListN.{length};
+ghost use Rattle.trace_text.specs.Texts.{Placed};
 
 pub fn put_text(out: &mut [u8], at: usize, text: &[u8]) -> usize
     requires { ⌜ at ≤ length (now out) ⌝ }
-    ensures { λ r. ⌜ r ≤ length (now (out .entry)) ⌝ }
+    ensures { λ r. ⌜ Placed (now (out .entry)) at (now (text .entry)) (now (out .exit)) r ⌝ }
 {
     if text.len() <= out.len() - at {
         return put(out, at, text);
@@ -22,7 +23,7 @@ pub fn put_text(out: &mut [u8], at: usize, text: &[u8]) -> usize
 
 // The buffer is empty; a text that is longer than it goes straight out.
 fn put_first(out: &mut [u8], text: &[u8]) -> usize
-    ensures { λ r. ⌜ r ≤ length (now (out .entry)) ⌝ }
+    ensures { λ r. ⌜ Placed (now (out .entry)) 0 (now (text .entry)) (now (out .exit)) r ⌝ }
 {
     if text.len() <= out.len() {
         return put(out, 0, text);

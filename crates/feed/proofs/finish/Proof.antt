@@ -49,8 +49,8 @@ use Rattle.callkit.proofs.Spelled.{fnBy, Typed}
 use Rattle.model.proofs.ThreadInfo as T
 use Rattle.feed_plan.proofs.Report as S
 use Rattle.feed_plan.proofs.Report.Laws as S′
-use Rattle.records.proofs.totals.Totals as N
-use Rattle.records.proofs.totals.Totals.Laws as N′
+use Rattle.record_reads.proofs.totals.Totals as N
+use Rattle.record_reads.proofs.totals.Totals.Laws as N′
 use Rattle.sched.proofs.Locals.{allocs-all, frees-all}
 use Rattle.sched.proofs.Memory.{At, slice, Token, Slice, Last}
 use Rattle.feed.proofs.Ends.{rmach}

@@ -4,10 +4,10 @@ use Rattle.loads.proofs.repeat.Statement.{statement}
 use Rattle.loads.proofs.repeat.Tie as tie
 
 abbrev Inv-loop : tie.InvT-loop
-Inv-loop load calls count queue₀ prios₀ log₀ lanes₀ last₀ left₀ queue prios log lanes last left = (0 ≤ left)
+Inv-loop load queue₀ prios₀ log₀ lanes₀ last₀ left₀ queue prios log lanes last left = (0 ≤ left)
 
 abbrev μ-loop : tie.MeasureT-loop
-μ-loop load calls count queue₀ prios₀ log₀ lanes₀ last₀ left₀ queue prios log lanes last left = left
+μ-loop load queue₀ prios₀ log₀ lanes₀ last₀ left₀ queue prios log lanes last left = left
 
 first-thread-requires : tie.Need-first-thread-requires Inv-loop μ-loop
 first-thread-requires c κs = search needs

@@ -1,5 +1,6 @@
 use borrow.Author.Needs.{needs}
 use native.Mathlib.Omega.{arith}
+use Rattle.report.proofs.Keeping.{none-yet}
 use Rattle.report.proofs.Taking.{sized, first-few}
 use Rattle.report.proofs.main.Statement.{statement}
 use Rattle.report.proofs.main.Tie as tie
@@ -66,7 +67,7 @@ start-requires-2 : tie.Need-start-requires-2
 start-requires-2 c κs =
     let b = c .before .before .before .before .before .before .before .before .before .before .before .before .before .before .before .blank-blocks .ensures in
     let f = c .before .before .before .before .before .before .before .first-line in
-    record { valid = c .before .before .before .before .before .before .before .before .before .start .ensures .valid (c .before .before .before .before .before .before .before .before .before .before .blank-records .result) (c .before .before .before .before .before .before .before .before .before .before .before .before .before .before .blank-words .result) (c .before .before .before .before .before .before .before .before .before .before .before .before .before .blank-words2 .result) (c .before .before .before .before .before .before .before .before .before .before .before .before .blank-log .result) (c .before .before .before .before .before .before .before .before .before .before .before .blank-lanes .result) (sized (c .before .before .before .before .before .before .before .before .before .before .blank-records .result) (c .before .before .before .before .before .before .before .before .before .before .before .before .before .before .blank-words .result) (c .before .before .before .before .before .before .before .before .before .before .before .before .before .blank-words2 .result) (c .before .before .before .before .before .before .before .before .before .before .before .before .blank-log .result) (c .before .before .before .before .before .before .before .before .before .before .before .blank-lanes .result) (c .before .before .before .before .before .before .before .before .before .before .blank-records .ensures) (c .before .before .before .before .before .before .before .before .before .before .before .before .before .before .blank-words .ensures) (c .before .before .before .before .before .before .before .before .before .before .before .before .before .blank-words2 .ensures) (c .before .before .before .before .before .before .before .before .before .before .before .before .blank-log .ensures) (c .before .before .before .before .before .before .before .before .before .before .before .blank-lanes .ensures)); awaits = f .ensures; turns = c .before .before .before .before .before .turn-of .ensures; room = omega (arith, b, f .kept .1 .0) }
+    record { valid = c .before .before .before .before .before .before .before .before .before .start .ensures .valid (c .before .before .before .before .before .before .before .before .before .before .blank-records .result) (c .before .before .before .before .before .before .before .before .before .before .before .before .before .before .blank-words .result) (c .before .before .before .before .before .before .before .before .before .before .before .before .before .blank-words2 .result) (c .before .before .before .before .before .before .before .before .before .before .before .before .blank-log .result) (c .before .before .before .before .before .before .before .before .before .before .before .blank-lanes .result) (sized (c .before .before .before .before .before .before .before .before .before .before .blank-records .result) (c .before .before .before .before .before .before .before .before .before .before .before .before .before .before .blank-words .result) (c .before .before .before .before .before .before .before .before .before .before .before .before .before .blank-words2 .result) (c .before .before .before .before .before .before .before .before .before .before .before .before .blank-log .result) (c .before .before .before .before .before .before .before .before .before .before .before .blank-lanes .result) (c .before .before .before .before .before .before .before .before .before .before .blank-records .ensures) (c .before .before .before .before .before .before .before .before .before .before .before .before .before .before .blank-words .ensures) (c .before .before .before .before .before .before .before .before .before .before .before .before .before .blank-words2 .ensures) (c .before .before .before .before .before .before .before .before .before .before .before .before .blank-log .ensures) (c .before .before .before .before .before .before .before .before .before .before .before .blank-lanes .ensures)); awaits = f .ensures .awaits; turns = c .before .before .before .before .before .turn-of .ensures; room = omega (arith, b, f .kept .1 .0); so-far = none-yet _ _ _ _ _ _ _ _ (c .before .before .before .before .before .before .before .before .before .start .ensures) (f .ensures) }
 
 returns : tie.Need-returns
 returns c = search needs

@@ -43,10 +43,12 @@ use denote.Triple.Table.{entered, cited}
 use denote.Triple.Walked.{says, needs, Stays, stay-slice, stay-dropped, walkOf, goes-slice, goes-dropped, Walks, ends-at, walked, walk-meets}
 use denote.Exit.{yes}
 use Rattle.model.specs.declared.ThreadInfo.{ThreadInfo}
+use Rattle.text.specs.Buffers.{Put}
+use Rattle.script.specs.Report as Definition
 use Rattle.feed_plan.specs.declared.Report.{Report}
 use Rattle.feed_plan.specs.declared.Line.{Line}
 use Rattle.feed_plan.specs.declared.Next.{Next}
-use Rattle.feed_plan.specs.Meant.{ReportValid}
+use Rattle.feed_plan.specs.Meant.{reportMeant, ReportValid}
 use Rattle.report_io.specs.declared.Upcoming.{Upcoming}
 use Rattle.report.specs.Running.{Runnable, Finished}
 use Rattle.walkkit.proofs.Again.{at-list}
@@ -65,6 +67,7 @@ use Rattle.feed_plan.proofs.Next.Laws as N′
 use Rattle.report_io.proofs.Upcoming as U
 use Rattle.report_io.proofs.Upcoming.Laws as U′
 use Rattle.report.proofs.Leaping.{leaps, big-lit, frees-mixed}
+use Rattle.report.proofs.Keeping.{finished}
 use Rattle.report.proofs.Taking.{asked, printable, goes-on, count-fits}
 use Rattle.report.proofs.Advancing.{Out, Claim, Told, Advance, advance-call}
 use Rattle.report.proofs.Passing.{LineIs, ReportIs, TurnIs, Passed, PassedAs, Put-at-end, EndsAs, LineOf, ReportOf, TurnOf, Pass, Finish, WriteEnd, line-call, report-call, turn-call, pass-call, finish-call, write-call}
@@ -325,12 +328,15 @@ module _ {M : Type 1} (𝓤 : URA M) (H : Heap 𝓤) (A : Atoms 𝓤) (W : Given
       -- [log; tokens; priorities; queue; blocks; records; lanes; true]
       move ! (1 ∷ []) $ split ! $ move ! (7 ∷ 0 ∷ []) $ join ! $ keep ! (6 ∷ 4 ∷ 3 ∷ 2 ∷ 0 ∷ 5 ∷ []) $ group ! 5 $ done !
 
+  ended-as : (x : Held) → Loop mm bs limit x → (w : Val) (k : Put-at-end) → EndsAs (x .r) (x .lists .ts) (x .bs) w k → Put (x .bs) 0 (Definition.finish (reportMeant (x .r) (x .lists .ts) (x .lists .qs) (x .lists .ls) (x .lists .ws))) (k .blocks) (k .count)
+  ended-as x inv w k φ = φ .claim (x .lists .qs) (x .lists .ps) (x .lists .ls) (x .lists .ws) (inv .runs .valid)
+
   exits : (rv uv : Val) (x : Held) → Loop mm bs limit x → (w : Val) (k : Put-at-end) → EndsAs (x .r) (x .lists .ts) (x .bs) w k → ent 𝓤 (⋆ 𝓤 H A ((Ts (x .lists .ts) ⊛ (Four′ (x .lists) ⊛ Bl (k .blocks))) ∷ [])) (Post rv uv vunit)
   exits rv uv x inv w k φ =
       qed W ((Ts (x .lists .ts) ⊛ (Four′ (x .lists) ⊛ Bl (k .blocks))) ∷ []) ∵
       suffices ! _ (ends-at 𝓤 H A f.ended stayed (f.clauses 𝓤 H A mem run) W (((κ₀, (κ, (κ₁, (κ₂, (κ₃, (κ₄, tt)))))), (q₀, (q, (q₁, (q₂, (q₃, (q₄, tt)))))), tt, a, vals rv uv), tt) vunit tt
       (tt, (tt, (tt, (x .lists .ts, (k .blocks, (x .lists .qs, (x .lists .ps, (x .lists .ls, (x .lists .ws, tt))))))))) (tt, (tt, (tt, (inv .long .threads, (φ .long ∙ inv .long-b, (inv .long .queue, (inv .long .prios, (inv .long .log, (inv .long .lanes, tt)))))))))) $
-      says ! (record { report = x .r; threads = x .lists .ts; valid = inv .runs .valid }) $
+      says ! (finished (x .r) (x .u) limit (x .lists) (x .bs) (inv .runs) (k .count) (k .blocks) (ended-as x inv w k φ) (count-fits (x .r) (x .lists) (x .bs) (k .count) (k .blocks) (inv .runs .valid) (ended-as x inv w k φ))) $
       split ! $ split ! $ move ! (2 ∷ []) $ split ! $ move ! (1 ∷ []) $ split ! $ move ! (2 ∷ []) $ split ! $ split ! $ move ! (2 ∷ []) $ split ! $ split ! $ move ! (2 ∷ []) $ split ! $ split ! $ move ! (2 ∷ []) $ split ! $
       -- [lanes; token₄; log; token₃; priorities; token₂; queue; token₁; blocks; token; records; token₀]
       nothing ! $ move ! (2 ∷ 0 ∷ []) $ join ! $ move ! (3 ∷ 0 ∷ []) $ join ! $ move ! (4 ∷ 0 ∷ []) $ join ! $ move ! (5 ∷ 0 ∷ []) $ join ! $ move ! (6 ∷ 0 ∷ []) $ join ! $ move ! (7 ∷ 0 ∷ []) $ join ! $ frame ! $
@@ -389,7 +395,7 @@ module _ {M : Type 1} (𝓤 : URA M) (H : Heap 𝓤) (A : Atoms 𝓤) (W : Given
       (λ x inv. finish-call 𝓤 H A mem run W (𝓣 .C) (fmOf 𝓤 H (W .laws) 𝓣) κ q γ b o (length bs) κ₀ q₀ γ₀ b₀ o₀ (length (mm .ts)) (x .r) (x .rv) (x .bs) (x .lists .ts) (sym (inv .long-b)) (same-room u8 _ _ (inv .long-b) room) (sym (inv .long .threads)) (same-room T.the-row _ _ (inv .long .threads) room₀) (known .1 .1 .1 .1 .1 .0)
       ((x .lists .qs, x .lists .ps, x .lists .ls, x .lists .ws, inv .runs .valid), enough x inv) (inv .is-r))
       (λ x inv w₆ k φ₆. write-call 𝓤 H A mem run W (𝓣 .C) (fmOf 𝓤 H (W .laws) 𝓣) κ q γ b o (length bs) (x .u) (x .uv) (k .count) w₆ (k .blocks) (sym (φ₆ .long ∙ inv .long-b)) (same-room u8 _ _ (φ₆ .long ∙ inv .long-b) room) (known .1 .1 .1 .1 .1 .1)
-      (inv .runs .awaits .roomy, count-fits (x .r) (x .lists) (x .bs) (k .count) (k .blocks) (inv .runs .valid) (φ₆ .claim (x .lists .qs) (x .lists .ps) (x .lists .ls) (x .lists .ws) (inv .runs .valid)), subst (λ (n : ℕ). 131_072 ≤ n) (sym (φ₆ .long)) (inv .runs .room)) (inv .is-u) (φ₆ .is))
+      (inv .runs .awaits .roomy, count-fits (x .r) (x .lists) (x .bs) (k .count) (k .blocks) (inv .runs .valid) (ended-as x inv w₆ k φ₆), subst (λ (n : ℕ). 131_072 ≤ n) (sym (φ₆ .long)) (inv .runs .room)) (inv .is-u) (φ₆ .is))
       (λ x inv w₆ k φ₆. exits rv uv x inv w₆ k φ₆)
       (room .0) (room₀ .0) (room₁ .0) (room₂ .0) (room₃ .0) (room₄ .0) (record { r = r₀; rv = rv; u = u₀; uv = uv; bs = bs; lists = mm }) t₀ (subst (λ (n : ℕ). n ≤ limit) (sym (pre .turns)) (pre .awaits .roomy .within .turns)) gt
       (record { runs = pre; is-r = gr; is-u = gu; long = record { threads = refl; queue = refl; prios = refl; log = refl; lanes = refl }; long-b = refl }))

@@ -53,8 +53,8 @@ use Rattle.report_plan.proofs.Progress as S
 use Rattle.report_plan.proofs.Progress.Laws as S′
 use Rattle.feed_plan.proofs.Report as B
 use Rattle.feed_plan.proofs.Report.Laws as B′
-use Rattle.records.proofs.totals.Totals as N
-use Rattle.records.proofs.totals.Totals.Laws as N′
+use Rattle.record_reads.proofs.totals.Totals as N
+use Rattle.record_reads.proofs.totals.Totals.Laws as N′
 use Rattle.sched.proofs.Locals.{allocs-all, frees-all}
 use Rattle.sched.proofs.Memory.{At, slice, Token, Slice, Last}
 use Rattle.feed.proofs.Parts.{Count, count-call}

@@ -1,59 +1,79 @@
-use mathlib.Core.Path.{sym}
-use Rattle.state.proofs.Whole.{whole}
 use borrow.Author.Needs.{needs}
+use mathlib.Core.Path.{sym, _∙_}
+use Rattle.state.proofs.Whole.{whole}
+use Rattle.state.proofs.Words.{all-eight}
 use Rattle.state.proofs.pack.Statement.{statement}
 use Rattle.state.proofs.pack.Tie as tie
-use Rattle.state.proofs.pack.Reads as reads
-use Rattle.state.proofs.pack.Lts as lts
 
--- src/lib.rt:68:14
-array-copy-out-c0 : tie.Need-array-copy-out-c0
-array-copy-out-c0 c = search needs
+array-copy-out-words-of : tie.Need-array-copy-out-words-of
+array-copy-out-words-of c = search needs
 
--- src/lib.rt:69:14
-array-copy-out-c1 : tie.Need-array-copy-out-c1
-array-copy-out-c1 c = search needs
+words-of-requires : tie.Need-words-of-requires
+words-of-requires c κs = search needs
 
--- src/lib.rt:70:14
-array-copy-out-c2 : tie.Need-array-copy-out-c2
-array-copy-out-c2 c = search needs
+array-copy-out-words-of-2 : tie.Need-array-copy-out-words-of-2
+array-copy-out-words-of-2 c = search needs
 
--- src/lib.rt:71:14
-array-copy-out-c3 : tie.Need-array-copy-out-c3
-array-copy-out-c3 c = search needs
+words-of-requires-2 : tie.Need-words-of-requires-2
+words-of-requires-2 c κs = search needs
 
--- src/lib.rt:72:14
-array-copy-out-c4 : tie.Need-array-copy-out-c4
-array-copy-out-c4 c = search needs
+array-copy-out-words-of-3 : tie.Need-array-copy-out-words-of-3
+array-copy-out-words-of-3 c = search needs
 
--- src/lib.rt:73:14
-array-copy-out-c5 : tie.Need-array-copy-out-c5
-array-copy-out-c5 c = search needs
+words-of-requires-3 : tie.Need-words-of-requires-3
+words-of-requires-3 c κs = search needs
 
--- src/lib.rt:74:14
-array-copy-out-c6 : tie.Need-array-copy-out-c6
-array-copy-out-c6 c = search needs
+array-copy-out-words-of-4 : tie.Need-array-copy-out-words-of-4
+array-copy-out-words-of-4 c = search needs
 
--- src/lib.rt:75:14
-array-copy-out-c7 : tie.Need-array-copy-out-c7
-array-copy-out-c7 c = search needs
+words-of-requires-4 : tie.Need-words-of-requires-4
+words-of-requires-4 c κs = search needs
 
--- src/lib.rt:65:1
+array-copy-out-words-of-5 : tie.Need-array-copy-out-words-of-5
+array-copy-out-words-of-5 c = search needs
+
+words-of-requires-5 : tie.Need-words-of-requires-5
+words-of-requires-5 c κs = search needs
+
+array-copy-out-words-of-6 : tie.Need-array-copy-out-words-of-6
+array-copy-out-words-of-6 c = search needs
+
+words-of-requires-6 : tie.Need-words-of-requires-6
+words-of-requires-6 c κs = search needs
+
+array-copy-out-words-of-7 : tie.Need-array-copy-out-words-of-7
+array-copy-out-words-of-7 c = search needs
+
+words-of-requires-7 : tie.Need-words-of-requires-7
+words-of-requires-7 c κs = search needs
+
+array-copy-out-words-of-8 : tie.Need-array-copy-out-words-of-8
+array-copy-out-words-of-8 c = search needs
+
+words-of-requires-8 : tie.Need-words-of-requires-8
+words-of-requires-8 c κs = search needs
+
 returns : tie.Need-returns
-returns c =
-    let st = c .before .before .before .before .before .before .before .before in
-    sym (whole 8 (st .args .t1) _ (st .good .0 .1 .0 .1))
+returns c = all-eight _ _ _ _ _ _ _ _ _ _ _ _ _ _ _ _ (c .before .before .before .before .before .before .before .before .before .before .before .before .before .before .words-of .ensures) (c .before .before .before .before .before .before .before .before .before .before .before .before .words-of2 .ensures) (c .before .before .before .before .before .before .before .before .before .before .words-of3 .ensures) (c .before .before .before .before .before .before .before .before .words-of4 .ensures) (c .before .before .before .before .before .before .words-of5 .ensures) (c .before .before .before .before .words-of6 .ensures) (c .before .before .words-of7 .ensures) (c .words-of8 .ensures) ∙ sym (whole 8 (c .before .before .before .before .before .before .before .before .before .before .before .before .before .before .before .before .args .t1) _ (c .before .before .before .before .before .before .before .before .before .before .before .before .before .before .before .before .good .0 .1 .0 .1))
 
 pub pack-spec : {M : Type 1} → statement M
 pack-spec =
     tie.close
     (tie.spec
-    array-copy-out-c0
-    array-copy-out-c1
-    array-copy-out-c2
-    array-copy-out-c3
-    array-copy-out-c4
-    array-copy-out-c5
-    array-copy-out-c6
-    array-copy-out-c7
+    array-copy-out-words-of
+    words-of-requires
+    array-copy-out-words-of-2
+    words-of-requires-2
+    array-copy-out-words-of-3
+    words-of-requires-3
+    array-copy-out-words-of-4
+    words-of-requires-4
+    array-copy-out-words-of-5
+    words-of-requires-5
+    array-copy-out-words-of-6
+    words-of-requires-6
+    array-copy-out-words-of-7
+    words-of-requires-7
+    array-copy-out-words-of-8
+    words-of-requires-8
     returns)

@@ -1,56 +1,101 @@
 -- `switches::switch_list` meets its contract. Assumes nothing.
 use borrow.Author.Needs.{needs}
 use native.Mathlib.Omega.{arith}
-use Prim.Native.Nat.{_≤_, _-_, _+_}
-use mathlib.Core.Path.{_≡_, refl, sym, _∙_, subst}
-use mathlib.Core.List.{List, []}
-use lib.ListN.{length}
+use Prim.Native.Nat.{_≤_, _-_}
+use mathlib.Core.Path.{_≡_, _∙_}
+use mathlib.Core.List.{[]}
 use denote.Ref.{now}
-use Rattle.model.specs.Types.{SwitchEntry}
-use Rattle.model.specs.Reading.{switchesMeant}
 use Rattle.model.specs.Accounting.{switchList}
 use Rattle.queue.specs.Words.{movesIn, moveMeant}
-use Rattle.switches.proofs.Few.{few}
-use Rattle.switches.proofs.Touch.{next-move}
+use Rattle.switches.proofs.Stored.{Listed, listed-none, turn-same, turn-room, turn-more}
 use Rattle.switches.proofs.switch_list.Statement.{statement}
 use Rattle.switches.proofs.switch_list.Tie as tie
 
 abbrev Inv-loop : tie.InvT-loop
-Inv-loop out n entries₀ count₀ k₀ entries count k = (k ≤ n) × (count ≤ 8) × (length entries ≡ 8) × (switchesMeant entries count ≡ switchList [] (movesIn out k))
+Inv-loop out n entries₀ places₀ count₀ k₀ entries places count k = (k ≤ n) × Listed entries places count (switchList [] (movesIn out k))
 
 abbrev μ-loop : tie.MeasureT-loop
-μ-loop out n entries₀ count₀ k₀ entries count k = n - k
+μ-loop out n entries₀ places₀ count₀ k₀ entries places count k = n - k
 
 loop-holds : tie.Need-loop-holds Inv-loop μ-loop
 unfolding switchList movesIn
-loop-holds c = (search needs, search needs, refl, refl)
+loop-holds c = (search needs, listed-none)
 
 move-at-requires : tie.Need-move-at-requires Inv-loop μ-loop
 move-at-requires c κs = search needs
 
-with-move-requires : tie.Need-with-move-requires Inv-loop μ-loop
-with-move-requires c κs =
-    let l = c .before .before .loop in
-    let e = next-move (now (c .before .before .before .before .args .out)) (l .k) (switchesMeant (l .entries) (l .count)) (moveMeant (c .move-at .result)) (omega (arith, c .before .before .before .before .pre, c .before .loop-test .taken)) (c .move-at .ensures) (l .inv .3) in
-    (l .inv .1, subst (λ (z : List SwitchEntry). length z ≤ 8) (sym e) (few (now (c .before .before .before .before .args .out)) (l .k + 1)))
-
 add-k : tie.Need-add-k Inv-loop μ-loop
 add-k c = search needs
+
+core-touched-requires : tie.Need-core-touched-requires Inv-loop μ-loop
+core-touched-requires c κs = search needs
 
 loop-less : tie.Need-loop-less Inv-loop μ-loop
 loop-less c = search needs
 
 loop-again : tie.Need-loop-again Inv-loop μ-loop
 loop-again c =
-    let l = c .before .before .before .before .loop in
-    let w = c .before .with-move in
-    (omega (arith, c .before .before .before .loop-test .taken), w .ensures .1 .0, w .ensures .1 .1, w .ensures .0 ∙ next-move (now (c .before .before .before .before .before .before .args .out)) (l .k) (switchesMeant (l .entries) (l .count)) (moveMeant (c .before .before .move-at .result)) (omega (arith, c .before .before .before .before .before .before .pre, c .before .before .before .loop-test .taken)) (c .before .before .move-at .ensures) (l .inv .3))
+    let t = c .before in
+    let l = t .before .before .before .loop in
+    let s = t .before .before .before .before .before in
+    let o = now (s .args .out) in
+    (search needs, turn-same o (l .k) (omega (arith, s .pre, t .before .before .loop-test .taken)) (l .entries) (l .places) (l .count) (l .inv .1) (moveMeant (t .before .move-at .result)) (t .before .move-at .ensures) (t .core-touched .result) (t .core-touched .ensures) (c .if1 .taken))
+
+mul-entry-place : tie.Need-mul-entry-place Inv-loop μ-loop
+mul-entry-place c = search needs
+
+array-read-entry-place : tie.Need-array-read-entry-place Inv-loop μ-loop
+array-read-entry-place c = search needs
+
+entry-place-requires : tie.Need-entry-place-requires Inv-loop μ-loop
+entry-place-requires c κs = search needs
+
+array-copy-out-e : tie.Need-array-copy-out-e Inv-loop μ-loop
+array-copy-out-e c =
+    let t = c .before .before in
+    let l = t .before .before .before .loop in
+    let s = t .before .before .before .before .before in
+    let o = now (s .args .out) in
+    turn-room o (l .k) (omega (arith, s .pre, t .before .before .loop-test .taken)) (l .entries) (l .places) (l .count) (l .inv .1) (moveMeant (t .before .move-at .result)) (t .before .move-at .ensures) (t .core-touched .result) (t .core-touched .ensures) (c .before .if1 .left) (c .entry-place .result) (c .entry-place .ensures)
+
+mul-e : tie.Need-mul-e Inv-loop μ-loop
+mul-e c = omega (arith, array-copy-out-e c)
+
+entry-after-requires : tie.Need-entry-after-requires Inv-loop μ-loop
+entry-after-requires c κs = search needs
+
+mul-entries : tie.Need-mul-entries Inv-loop μ-loop
+mul-entries c = omega (arith, array-copy-out-e (c .before .before))
+
+array-set-from-entries : tie.Need-array-set-from-entries Inv-loop μ-loop
+array-set-from-entries c = array-copy-out-e (c .before .before)
+
+mul-places : tie.Need-mul-places Inv-loop μ-loop
+mul-places c = search needs
+
+array-write-places : tie.Need-array-write-places Inv-loop μ-loop
+array-write-places c = search needs
+
+entry-count-requires : tie.Need-entry-count-requires Inv-loop μ-loop
+entry-count-requires c κs = array-copy-out-e (c .before .before)
+
+loop-less-2 : tie.Need-loop-less-2 Inv-loop μ-loop
+loop-less-2 c = search needs
+
+loop-again-2 : tie.Need-loop-again-2 Inv-loop μ-loop
+loop-again-2 c =
+    let p = c .before .before .before in
+    let t = p .before .before in
+    let l = t .before .before .before .loop in
+    let s = t .before .before .before .before .before in
+    let o = now (s .args .out) in
+    (search needs, turn-more o (l .k) (omega (arith, s .pre, t .before .before .loop-test .taken)) (l .entries) (l .places) (l .count) (l .inv .1) (moveMeant (t .before .move-at .result)) (t .before .move-at .ensures) (t .core-touched .result) (t .core-touched .ensures) (p .before .if1 .left) (p .entry-place .result) (p .entry-place .ensures) (c .before .entry-after .result) (c .before .entry-after .ensures) (c .entry-count .result) (c .entry-count .ensures))
 
 returns : tie.Need-returns Inv-loop μ-loop
 returns c =
     let l = c .before .loop in
     let e : l .k ≡ c .before .before .before .args .n = omega (arith, l .inv .0, c .loop-test .left) in
-    (l .inv .3 ∙ rw e, (l .inv .1, l .inv .2))
+    (l .inv .1 .meant ∙ rw e, (l .inv .1 .fits, l .inv .1 .eight))
 
 pub switch-list-spec : {M : Type 1} → statement M
 switch-list-spec =
@@ -60,8 +105,21 @@ switch-list-spec =
     μ-loop
     loop-holds
     move-at-requires
-    with-move-requires
     add-k
+    core-touched-requires
     loop-less
     loop-again
+    mul-entry-place
+    array-read-entry-place
+    entry-place-requires
+    mul-e
+    array-copy-out-e
+    entry-after-requires
+    mul-entries
+    array-set-from-entries
+    mul-places
+    array-write-places
+    entry-count-requires
+    loop-less-2
+    loop-again-2
     returns)

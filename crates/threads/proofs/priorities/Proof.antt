@@ -54,10 +54,10 @@ use Rattle.walkkit.proofs.Lent.{Gives, calls-by, call-value, free-cell, free-ro
 use Rattle.walkkit.proofs.Plain.{index-fits, settled}
 use Rattle.model.proofs.ThreadInfo as T
 use Rattle.model.proofs.ThreadInfo.Laws as T′
-use Rattle.records.proofs.read.priority_of as g
-use Rattle.records.proofs.read.priority_of.Symbol as g-def
-use Rattle.records.proofs.read.priority_of.Symbol.{name as #records·read·priority-of}
-use Rattle.records.proofs.read.priority_of.Met as g-thm
+use Rattle.record_reads.proofs.read.priority_of as g
+use Rattle.record_reads.proofs.read.priority_of.Symbol as g-def
+use Rattle.record_reads.proofs.read.priority_of.Symbol.{name as #records·read·priority-of}
+use Rattle.record_reads.proofs.read.priority_of.Met as g-thm
 use Rattle.threads.proofs.Reading.{priorityAt, is-priority, all-priorities}
 use Rattle.threads.proofs.priorities.Key.{name as #threads·priorities}
 use Rattle.threads.proofs.priorities as f
@@ -249,4 +249,4 @@ priorities-spec 𝓤 H 𝓜 𝓖 𝓡 =
     entered 𝓤 H (tripleOf 𝓤 H (𝓖 .A) f.signature (f.spec 𝓤 H (𝓖 .A) (𝓜 .mem) (𝓡 .run)))
     (tables 𝓤 H 𝓜 𝓡 code.env .C) (tables 𝓤 H 𝓜 𝓡 code.env .Λ) #threads·priorities code.function (code.unfolded 𝓤 H 𝓜 𝓡)
     (f-meets 𝓤 H (𝓖 .A) (givenOf 𝓤 H 𝓜 𝓖) (𝓜 .mem) (𝓡 .run) (tablesOf 𝓤 H 𝓜 (tables 𝓤 H 𝓜 𝓡 code.env))
-    (cited 𝓤 H (Priority 𝓤 H (𝓖 .A) (𝓜 .mem) (𝓡 .run)) 𝓜 𝓡 code.env #records·read·priority-of g-def.routine code.calls-records·read·priority-of (g-thm.met 𝓤 H 𝓜 𝓖 𝓡)))
+    (cited 𝓤 H (Priority 𝓤 H (𝓖 .A) (𝓜 .mem) (𝓡 .run)) 𝓜 𝓡 code.env #records·read·priority-of g-def.routine code.calls-record-reads·read·priority-of (g-thm.met 𝓤 H 𝓜 𝓖 𝓡)))

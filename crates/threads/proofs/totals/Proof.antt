@@ -44,24 +44,24 @@ use denote.Triple.Walked.{says, needs, Stays, stay-dropped, walkOf, goes-dropped
 use denote.Exit.{yes}
 use Rattle.model.specs.declared.ThreadInfo.{ThreadInfo}
 use Rattle.model.specs.Reading.{threadMeant}
-use Rattle.records.specs.declared.totals.Totals.{Totals}
-use Rattle.records.specs.Totals.{totalsOf, addTotals, TotalsFit}
+use Rattle.record_reads.specs.declared.totals.Totals.{Totals}
+use Rattle.record_reads.specs.Totals.{totalsOf, addTotals, TotalsFit}
 use Rattle.threads.specs.Slice.{blank, threadsIn}
 use Rattle.walkkit.proofs.Count.{whiles}
 use Rattle.walkkit.proofs.Lent.{Gives, calls-by, call-value, free-cell, free-room}
 use Rattle.walkkit.proofs.Plain.{index-fits, settled}
 use Rattle.model.proofs.ThreadInfo as T
 use Rattle.model.proofs.ThreadInfo.Laws as T′
-use Rattle.records.proofs.totals.Totals as N
-use Rattle.records.proofs.totals.Totals.Laws as N′
-use Rattle.records.proofs.totals.no_threads as g
-use Rattle.records.proofs.totals.no_threads.Symbol as g-def
-use Rattle.records.proofs.totals.no_threads.Symbol.{name as #records·totals·no-threads}
-use Rattle.records.proofs.totals.no_threads.Met as g-thm
-use Rattle.records.proofs.totals.totaled as h
-use Rattle.records.proofs.totals.totaled.Symbol as h-def
-use Rattle.records.proofs.totals.totaled.Symbol.{name as #records·totals·totaled}
-use Rattle.records.proofs.totals.totaled.Met as h-thm
+use Rattle.record_reads.proofs.totals.Totals as N
+use Rattle.record_reads.proofs.totals.Totals.Laws as N′
+use Rattle.record_reads.proofs.totals.no_threads as g
+use Rattle.record_reads.proofs.totals.no_threads.Symbol as g-def
+use Rattle.record_reads.proofs.totals.no_threads.Symbol.{name as #records·totals·no-threads}
+use Rattle.record_reads.proofs.totals.no_threads.Met as g-thm
+use Rattle.record_reads.proofs.totals.totaled as h
+use Rattle.record_reads.proofs.totals.totaled.Symbol as h-def
+use Rattle.record_reads.proofs.totals.totaled.Symbol.{name as #records·totals·totaled}
+use Rattle.record_reads.proofs.totals.totaled.Met as h-thm
 use Rattle.threads.proofs.Reading.{sums-none, sums-next, sums-fit}
 use Rattle.threads.proofs.totals.Key.{name as #threads·totals}
 use Rattle.threads.proofs.totals as f
@@ -238,5 +238,5 @@ totals-spec 𝓤 H 𝓜 𝓖 𝓡 =
     entered 𝓤 H (tripleOf 𝓤 H (𝓖 .A) f.signature (f.spec 𝓤 H (𝓖 .A) (𝓜 .mem) (𝓡 .run)))
     (tables 𝓤 H 𝓜 𝓡 code.env .C) (tables 𝓤 H 𝓜 𝓡 code.env .Λ) #threads·totals code.function (code.unfolded 𝓤 H 𝓜 𝓡)
     (f-meets 𝓤 H (𝓖 .A) (givenOf 𝓤 H 𝓜 𝓖) (𝓜 .mem) (𝓡 .run) (tablesOf 𝓤 H 𝓜 (tables 𝓤 H 𝓜 𝓡 code.env))
-    (cited 𝓤 H (Start 𝓤 H (𝓖 .A) (𝓜 .mem) (𝓡 .run)) 𝓜 𝓡 code.env #records·totals·no-threads g-def.routine code.calls-records·totals·no-threads (g-thm.met 𝓤 H 𝓜 𝓖 𝓡))
-    (cited 𝓤 H (Adds 𝓤 H (𝓖 .A) (𝓜 .mem) (𝓡 .run)) 𝓜 𝓡 code.env #records·totals·totaled h-def.routine code.calls-records·totals·totaled (h-thm.met 𝓤 H 𝓜 𝓖 𝓡)))
+    (cited 𝓤 H (Start 𝓤 H (𝓖 .A) (𝓜 .mem) (𝓡 .run)) 𝓜 𝓡 code.env #records·totals·no-threads g-def.routine code.calls-record-reads·totals·no-threads (g-thm.met 𝓤 H 𝓜 𝓖 𝓡))
+    (cited 𝓤 H (Adds 𝓤 H (𝓖 .A) (𝓜 .mem) (𝓡 .run)) 𝓜 𝓡 code.env #records·totals·totaled h-def.routine code.calls-record-reads·totals·totaled (h-thm.met 𝓤 H 𝓜 𝓖 𝓡)))

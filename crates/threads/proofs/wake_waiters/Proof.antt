@@ -59,10 +59,10 @@ use Rattle.model.proofs.ThreadInfo as T
 use Rattle.model.proofs.ThreadInfo.Laws as T′
 use Rattle.model.proofs.Tid as N
 use Rattle.model.proofs.Tid.Laws as N′
-use Rattle.records.proofs.read.push_waiter as g
-use Rattle.records.proofs.read.push_waiter.Symbol as g-def
-use Rattle.records.proofs.read.push_waiter.Symbol.{name as #records·read·push-waiter}
-use Rattle.records.proofs.read.push_waiter.Met as g-thm
+use Rattle.record_reads.proofs.read.push_waiter as g
+use Rattle.record_reads.proofs.read.push_waiter.Symbol as g-def
+use Rattle.record_reads.proofs.read.push_waiter.Symbol.{name as #records·read·push-waiter}
+use Rattle.record_reads.proofs.read.push_waiter.Met as g-thm
 use Rattle.records.proofs.change.woken as h
 use Rattle.records.proofs.change.woken.Symbol as h-def
 use Rattle.records.proofs.change.woken.Symbol.{name as #records·change·woken}
@@ -343,5 +343,5 @@ wake-waiters-spec 𝓤 H 𝓜 𝓖 𝓡 =
     entered 𝓤 H (tripleOf 𝓤 H (𝓖 .A) f.signature (f.spec 𝓤 H (𝓖 .A) (𝓜 .mem) (𝓡 .run)))
     (tables 𝓤 H 𝓜 𝓡 code.env .C) (tables 𝓤 H 𝓜 𝓡 code.env .Λ) #threads·wake-waiters code.function (code.unfolded 𝓤 H 𝓜 𝓡)
     (f-meets 𝓤 H (𝓖 .A) (givenOf 𝓤 H 𝓜 𝓖) (𝓜 .mem) (𝓡 .run) (tablesOf 𝓤 H 𝓜 (tables 𝓤 H 𝓜 𝓡 code.env))
-    (cited 𝓤 H (Push 𝓤 H (𝓖 .A) (𝓜 .mem) (𝓡 .run)) 𝓜 𝓡 code.env #records·read·push-waiter g-def.routine code.calls-records·read·push-waiter (g-thm.met 𝓤 H 𝓜 𝓖 𝓡))
+    (cited 𝓤 H (Push 𝓤 H (𝓖 .A) (𝓜 .mem) (𝓡 .run)) 𝓜 𝓡 code.env #records·read·push-waiter g-def.routine code.calls-record-reads·read·push-waiter (g-thm.met 𝓤 H 𝓜 𝓖 𝓡))
     (cited 𝓤 H (Wakes 𝓤 H (𝓖 .A) (𝓜 .mem) (𝓡 .run)) 𝓜 𝓡 code.env #records·change·woken h-def.routine code.calls-records·change·woken (h-thm.met 𝓤 H 𝓜 𝓖 𝓡)))

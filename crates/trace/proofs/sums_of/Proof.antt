@@ -2,7 +2,7 @@ use borrow.Author.Needs.{needs}
 use native.Mathlib.Omega.{arith}
 use Prim.Native.Nat.{ℕ, _≤_, _-_, _+_}
 use mathlib.Core.Path.{_≡_, sym, ap, subst, _∙_}
-use Rattle.records.specs.Totals.{totalsOf, TotalsFit}
+use Rattle.record_reads.specs.Totals.{totalsOf, TotalsFit}
 use Rattle.threads.specs.Slice.{threadsIn}
 use Rattle.threads.proofs.Reading.{sums-none, sums-fit}
 use Rattle.trace.proofs.Keeping.{sums-after}

@@ -3,16 +3,16 @@ use Prim.Native.Nat.{_≤_, _-_}
 use mathlib.Core.Path.{_≡_, refl}
 use mathlib.Core.List.{map}
 use lib.ListN.{length, take, length-set}
-use Rattle.charges.specs.Charging.{runnerWord, holderWord}
+use Rattle.charges.specs.Charging.{holderWord, isRunning}
 use Rattle.charges.proofs.Charging.{filled, all-filled}
 use Rattle.charges.proofs.charge.core_threads.Statement.{statement}
 use Rattle.charges.proofs.charge.core_threads.Tie as tie
 
 abbrev Inv-loop : tie.InvT-loop
-Inv-loop cores running₀ held₀ k₀ running held k = (k ≤ 8) × (length running ≡ 8) × (length held ≡ 8) × (take k running ≡ map runnerWord (take k cores)) × (take k held ≡ map holderWord (take k cores))
+Inv-loop cores held₀ running₀ k₀ held running k = (k ≤ 8) × (length held ≡ 8) × (length running ≡ 8) × (take k held ≡ map holderWord (take k cores)) × (take k running ≡ map isRunning (take k cores))
 
 abbrev μ-loop : tie.MeasureT-loop
-μ-loop cores running₀ held₀ k₀ running held k = 8 - k
+μ-loop cores held₀ running₀ k₀ held running k = 8 - k
 
 loop-holds : tie.Need-loop-holds Inv-loop μ-loop
 loop-holds c = (search needs, search needs, search needs, refl, refl)
@@ -23,15 +23,6 @@ mul-s c = search needs
 array-copy-out-s : tie.Need-array-copy-out-s Inv-loop μ-loop
 array-copy-out-s c = search needs
 
-runner-word-requires : tie.Need-runner-word-requires Inv-loop μ-loop
-runner-word-requires c κs = search needs
-
-mul-running : tie.Need-mul-running Inv-loop μ-loop
-mul-running c = search needs
-
-array-write-running : tie.Need-array-write-running Inv-loop μ-loop
-array-write-running c = search needs
-
 holder-word-requires : tie.Need-holder-word-requires Inv-loop μ-loop
 holder-word-requires c κs = search needs
 
@@ -40,6 +31,12 @@ mul-held c = search needs
 
 array-write-held : tie.Need-array-write-held Inv-loop μ-loop
 array-write-held c = search needs
+
+is-running-requires : tie.Need-is-running-requires Inv-loop μ-loop
+is-running-requires c κs = search needs
+
+array-write-running : tie.Need-array-write-running Inv-loop μ-loop
+array-write-running c = search needs
 
 add-k : tie.Need-add-k Inv-loop μ-loop
 add-k c = search needs
@@ -53,12 +50,12 @@ loop-again c =
       search needs,
       simp length-set (v .1),
       simp length-set (v .2),
-      filled runnerWord (c .before .before .before .before .before .args .t1) _ (c .before .before .before .before .loop .running) (c .before .before .before .before .loop .k) _ (search needs) (search needs) (c .before .runner-word .ensures) (v .3),
-      filled holderWord (c .before .before .before .before .before .args .t1) _ (c .before .before .before .before .loop .held) (c .before .before .before .before .loop .k) _ (search needs) (search needs) (c .holder-word .ensures) (v .4),
+      filled holderWord (c .before .before .before .before .before .args .t1) _ (c .before .before .before .before .loop .held) (c .before .before .before .before .loop .k) _ (search needs) (search needs) (c .before .holder-word .ensures) (v .3),
+      filled isRunning (c .before .before .before .before .before .args .t1) _ (c .before .before .before .before .loop .running) (c .before .before .before .before .loop .k) _ (search needs) (search needs) (c .is-running .ensures) (v .4),
     )
 
 returns : tie.Need-returns Inv-loop μ-loop
-returns c = all-filled (c .before .before .args .t1) (c .before .loop .running) (c .before .loop .held) (c .before .loop .k) (search needs) (search needs) (search needs) (c .before .loop .inv .3) (c .before .loop .inv .4)
+returns c = all-filled (c .before .before .args .t1) (c .before .loop .held) (c .before .loop .running) (c .before .loop .k) (search needs) (search needs) (search needs) (c .before .loop .inv .3) (c .before .loop .inv .4)
 
 pub core-threads-spec : {M : Type 1} → statement M
 core-threads-spec =
@@ -69,12 +66,11 @@ core-threads-spec =
     loop-holds
     mul-s
     array-copy-out-s
-    runner-word-requires
-    mul-running
-    array-write-running
     holder-word-requires
     mul-held
     array-write-held
+    is-running-requires
+    array-write-running
     add-k
     loop-less
     loop-again

@@ -6,13 +6,13 @@ use borrow.Author.Tests.{not-true, not-false}
 use lib.Seq.{length-take-le}
 use denote.Ref.{now}
 use Rattle.rcfg.specs.Reading.{headMeant}
-use Rattle.commands.specs.Reading.{headingReadMeant}
+use Rattle.headings.specs.Reading.{headingReadMeant}
 use Rattle.feed_plan.proofs.Lines.{line-there, head-unread, head-refused, head-more, head-done}
 use Rattle.feed_plan.proofs.reading.read_heading.Statement.{statement}
 use Rattle.feed_plan.proofs.reading.read_heading.Tie as tie
 use Rattle.feed_plan.proofs.reading.read_heading.Reads as reads
 use Rattle.feed_plan.proofs.reading.read_heading.Lts as lts
-use Rattle.commands.proofs.heading.read_head.Reads as read-head-reads
+use Rattle.headings.proofs.heading.read_head.Reads as read-head-reads
 use Rattle.feed_plan.proofs.reading.is_readable.Reads as is-readable-reads
 
 is-readable-requires : tie.Need-is-readable-requires

@@ -1,69 +1,22 @@
 use borrow.Author.Needs.{needs}
-use native.Mathlib.Omega.{arith}
 use mathlib.Core.Path.{sym, subst}
 use denote.Ref.{now}
-use Rattle.feed_plan.specs.Steps.{Rests}
-use Rattle.feed_plan.proofs.Lines.{heads-feed, calls-feed, ended-feed, over-feed, heads-fit, calls-fit}
+use Rattle.feed_plan.specs.declared.Reader.{Reader}
+use Rattle.feed_plan.specs.Meant.{Few}
+use Rattle.feed_plan.specs.Feeding.{LineRead, reportOf}
 use Rattle.feed_plan.proofs.reading.read_line.Statement.{statement}
 use Rattle.feed_plan.proofs.reading.read_line.Tie as tie
-use Rattle.feed_plan.proofs.reading.read_line.Reads as reads
-use Rattle.feed_plan.proofs.reading.read_line.Lts as lts
-use Rattle.feed_plan.proofs.reading.read_calling.Reads as read-calling-reads
-use Rattle.feed_plan.proofs.reading.read_heading.Reads as read-heading-reads
 
-enum-told : tie.Need-enum-told
-enum-told c = search needs
+reader-of-requires : tie.Need-reader-of-requires
+reader-of-requires c κs = search needs
 
-read-heading-requires : tie.Need-read-heading-requires
-read-heading-requires c κs = search needs
-
-enum-told-2 : tie.Need-enum-told-2
-enum-told-2 c = search needs
-
-read-calling-requires : tie.Need-read-calling-requires
-read-calling-requires c κs = search needs
-
-enum-told-3 : tie.Need-enum-told-3
-enum-told-3 c = search needs
-
-enum-told-4 : tie.Need-enum-told-4
-enum-told-4 c = search needs
+read-piece-requires : tie.Need-read-piece-requires
+read-piece-requires c κs = subst (λ (k : Reader). Few (k .stage) (k .lines)) (sym (c .reader-of .ensures)) (c .before .before .pre)
 
 returns : tie.Need-returns
 returns c =
-    let a = c .before .before .before .before .before .args in
-    let e = c .before .enum-told .given .1 in
-    record { says = heads-feed (a .r) (now (a .piece)) (c .read-heading .result) e (c .read-heading .ensures .0); fits = heads-fit (a .r) (c .read-heading .result) e (c .before .before .before .before .before .pre) (c .read-heading .ensures .1) }
-
-returns-2 : tie.Need-returns-2
-returns-2 c =
-    let a = c .before .before .before .before .before .args in
-    let e = c .before .enum-told2 .given .1 in
-    record { says = calls-feed (a .r) (now (a .piece)) (c .read-calling .result) e (c .read-calling .ensures .0); fits = calls-fit (a .r) (c .read-calling .result) e (c .before .before .before .before .before .pre) (c .read-calling .ensures .1) }
-
-returns-3 : tie.Need-returns-3
-returns-3 c =
-    let a = c .before .before .before .before .args in
-    let e = c .enum-told3 .given .1 in
-    record { says = ended-feed (a .r) (now (a .piece)) e; fits = subst Rests (sym e) tt }
-
-returns-4 : tie.Need-returns-4
-returns-4 c =
-    let a = c .before .before .before .before .args in
-    let e = c .enum-told4 .given .1 in
-    record { says = over-feed (a .r) (now (a .piece)) e; fits = subst Rests (sym e) tt }
+    let a = c .before .before .before .args in
+    subst (λ (k : Reader). LineRead (reportOf k (a .r .sched)) (now (a .piece)) (c .read-piece .result)) (c .before .reader-of .ensures) (c .read-piece .ensures (a .r .sched))
 
 pub read-line-spec : {M : Type 1} → statement M
-read-line-spec =
-    tie.close
-    (tie.spec
-    enum-told
-    read-heading-requires
-    enum-told-2
-    read-calling-requires
-    enum-told-3
-    enum-told-4
-    returns
-    returns-2
-    returns-3
-    returns-4)
+read-line-spec = tie.close (tie.spec reader-of-requires read-piece-requires returns)

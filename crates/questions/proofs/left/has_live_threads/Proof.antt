@@ -2,8 +2,8 @@ use borrow.Author.Needs.{needs}
 use native.Mathlib.Omega.{arith}
 use mathlib.Core.Path.{sym, ap, _∙_}
 use lib.Dec.{ltb}
-use Rattle.records.specs.declared.totals.Totals.{Totals}
-use Rattle.records.proofs.Summing.{live-any}
+use Rattle.record_reads.specs.declared.totals.Totals.{Totals}
+use Rattle.record_reads.proofs.Summing.{live-any}
 use Rattle.questions.proofs.left.has_live_threads.Statement.{statement}
 use Rattle.questions.proofs.left.has_live_threads.Tie as tie
 use Rattle.questions.proofs.left.has_live_threads.Reads as reads

@@ -1,21 +1,22 @@
 use borrow.Author.Needs.{needs}
 use native.Mathlib.Omega.{arith}
-use Prim.Native.Nat.{_+_, _-_, _≤_}
-use mathlib.Core.Path.{_≡_, refl, _∙_}
-use lib.ListN.{length, getD, length-set}
+use Prim.Native.Nat.{ℕ, _+_, _-_, _≤_}
+use mathlib.Core.Path.{_≡_, refl, ap, _∙_}
+use mathlib.Core.List.{List}
+use lib.ListN.{length, getD, set, length-set}
+use Rattle.report_io.specs.Blocks.{broughtFront}
+use Rattle.report_io.proofs.Standing.{front-none, front-next}
 use Rattle.report_io.proofs.input.move_rest.Statement.{statement}
 use Rattle.report_io.proofs.input.move_rest.Tie as tie
-use Rattle.report_io.proofs.input.move_rest.Reads as reads
-use Rattle.report_io.proofs.input.move_rest.Lts as lts
 
 abbrev Inv-loop : tie.InvT-loop
-Inv-loop blocks₀ at n i₀ blocks i = (i ≤ n) × (length blocks ≡ length blocks₀)
+Inv-loop blocks₀ at n i₀ blocks i = (i ≤ n) × (length blocks ≡ length blocks₀) × (blocks ≡ broughtFront at i blocks₀)
 
 abbrev μ-loop : tie.MeasureT-loop
 μ-loop blocks₀ at n i₀ blocks i = n - i
 
 loop-holds : tie.Need-loop-holds Inv-loop μ-loop
-loop-holds c = search needs
+loop-holds c = (search needs, refl, front-none _ _)
 
 add-blocks : tie.Need-add-blocks Inv-loop μ-loop
 add-blocks c = search needs
@@ -35,13 +36,22 @@ loop-less c = search needs
 loop-again : tie.Need-loop-again Inv-loop μ-loop
 loop-again c =
     let l = c .before .before in
-    (search needs, length-set (l .loop .blocks) (l .loop .i) (getD (l .loop .blocks) (l .before .args .at + l .loop .i) 0) ∙ l .loop .inv .1)
+    let at = l .before .args .at in
+    let i = l .loop .i in (
+      search needs,
+      length-set (l .loop .blocks) i (getD (l .loop .blocks) (at + i) 0) ∙ l .loop .inv .1,
+      ap (λ (b : List ℕ). set b i (getD b (at + i) 0)) (l .loop .inv .2) ∙ front-next at i (l .before .args .blocks .now) (omega arith),
+    )
 
 same-length : tie.Need-same-length Inv-loop μ-loop
 same-length c = search needs
 
 returns : tie.Need-returns Inv-loop μ-loop
-returns c = search needs
+returns c =
+    let l = c .before .loop in
+    let s = c .before .before in
+    let e : l .i ≡ s .args .n = omega arith in
+    l .inv .2 ∙ ap (λ (k : ℕ). broughtFront (s .args .at) k (s .args .blocks .now)) e
 
 pub move-rest-spec : {M : Type 1} → statement M
 move-rest-spec =

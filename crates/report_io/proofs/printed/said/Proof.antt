@@ -1,15 +1,13 @@
 use borrow.Author.Needs.{needs}
 use native.Mathlib.Omega.{arith}
-use Prim.Native.Nat.{_+_}
-use mathlib.Core.Path.{_≡_, refl}
+use Prim.Native.Nat.{ℕ, _+_}
+use mathlib.Core.Path.{_≡_, ap}
 use lib.ListN.{length}
 use Rattle.feed_plan.specs.Steps.{nextText}
+use Rattle.report_io.specs.Blocks.{printedAs}
 use Rattle.report_io.proofs.Parts.{put-rest}
 use Rattle.report_io.proofs.printed.said.Statement.{statement}
 use Rattle.report_io.proofs.printed.said.Tie as tie
-use Rattle.report_io.proofs.printed.said.Reads as reads
-use Rattle.report_io.proofs.printed.said.Lts as lts
-use Rattle.feed_plan.proofs.saying.put_text.Reads as put-text-reads
 
 add-from : tie.Need-add-from
 add-from c = search needs
@@ -40,11 +38,13 @@ returns c =
     let s = c .before .before .before .before .before .before .before .before in
     let k = c .before .before .before .before .put-text in
     let q = s .pre .2 in
-    let m : k .result ≡ 0 + length (nextText (s .args .next)) = k .ensures .end in
+    let t = nextText (s .args .next) in
+    let m : k .result ≡ 0 + length t = k .ensures .end in
+    let e : k .result ≡ length t = omega (arith, m) in
     let w = s .pre .0 .within in (
       record { begins = w .begins; ends = w .ends; pending = omega (arith, m, q .short, s .pre .0 .room); turns = omega (arith, s .pre .1) },
-      refl,
-      put-rest (65_536 + s .args .p .pending) (s .args .blocks .now) (nextText (s .args .next)) (k .last .1 .0) (k .result) (65_536 + (s .args .p .pending + k .result)) (k .ensures) (omega arith),
+      ap (λ (n : ℕ). printedAs n (s .args .p)) e,
+      put-rest (65_536 + s .args .p .pending) (s .args .blocks .now) t (k .last .1 .0) (k .result) (65_536 + (s .args .p .pending + k .result)) (k .ensures) (omega arith),
     )
 
 pub said-spec : {M : Type 1} → statement M

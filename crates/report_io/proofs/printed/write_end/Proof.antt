@@ -1,21 +1,20 @@
 use borrow.Author.Needs.{needs}
 use native.Mathlib.Omega.{arith}
 use Prim.Native.Nat.{_≤_}
-use mathlib.Core.Path.{sym}
+use mathlib.Core.Path.{refl, sym}
 use lib.ListN.{length}
 use lib.Seq.{length-take-le}
+use mathlib.Core.Logic.{inl, inr}
+use Rattle.report_io.specs.Blocks.{EndWritten}
 use Rattle.report_io.proofs.printed.write_end.Statement.{statement}
 use Rattle.report_io.proofs.printed.write_end.Tie as tie
-use Rattle.report_io.proofs.printed.write_end.Reads as reads
-use Rattle.report_io.proofs.printed.write_end.Lts as lts
-use Rattle.io.proofs.write_all.Reads as write-all-reads
-use Rattle.report_io.proofs.printed.written.Reads as written-reads
 
 written-requires : tie.Need-written-requires
 written-requires c κs = search needs
 
 returns : tie.Need-returns
-returns c = search needs
+unfolding EndWritten
+returns c = inl refl
 
 slice-aggregate-write-all : tie.Need-slice-aggregate-write-all
 slice-aggregate-write-all c =
@@ -27,10 +26,12 @@ write-all-requires : tie.Need-write-all-requires
 write-all-requires c κs = search needs
 
 returns-2 : tie.Need-returns-2
-returns-2 c = search needs
+unfolding EndWritten
+returns-2 c = inl refl
 
 returns-3 : tie.Need-returns-3
-returns-3 c = search needs
+unfolding EndWritten
+returns-3 c = inr refl
 
 pub write-end-spec : {M : Type 1} → statement M
 write-end-spec =

@@ -22,18 +22,17 @@ enum-told-2 c = search needs
 cast-i : tie.Need-cast-i
 cast-i c = search needs
 
-element-write-next : tie.Need-element-write-next
-element-write-next c =
-    let t = c .before in
-    let h = retired-place (c .before .before .before .before .args .s) (c .before .before .before .before .args .core .0) (taken-none _ _ (t .enum-told2 .given .1) (c .before .before .before .check-retired .ensures)) in
-    let k = c .before .before .before .before .pre in
+with-mark-requires : tie.Need-with-mark-requires
+with-mark-requires c κs =
+    let h = retired-place (c .before .before .before .before .before .args .s) (c .before .before .before .before .before .args .core .0) (taken-none _ _ (c .before .before .enum-told2 .given .1) (c .before .before .before .before .check-retired .ensures)) in
+    let k = c .before .before .before .before .before .pre in
     omega arith
 
 returns : tie.Need-returns
 returns c = λ ts qs ps ls ws v. refused-done _ (c .before .before .before .args .s) ts qs ps ls ws v _ _ _ (c .enum-told .given .1) (c .before .before .check-retired .ensures) (retired-refusal (c .before .before .before .args .s) ts qs ls ws _)
 
 returns-2 : tie.Need-returns-2
-returns-2 c = λ ts qs ps ls ws v. retired-taken (c .before .before .before .before .args .s) ts qs ps ls ws v _ _ (taken-ok _ (c .before .enum-told2 .given .1)) (taken-none _ _ (c .before .enum-told2 .given .1) (c .before .before .before .check-retired .ensures))
+returns-2 c = λ ts qs ps ls ws v. retired-taken (c .before .before .before .before .before .before .args .s) ts qs ps ls ws v _ _ (c .with-mark .result) (c .with-mark .ensures) (taken-ok _ (c .before .before .before .enum-told2 .given .1)) (taken-none _ _ (c .before .before .before .enum-told2 .given .1) (c .before .before .before .before .before .check-retired .ensures))
 
 pub retired-spec : {M : Type 1} → statement M
 retired-spec =
@@ -43,6 +42,6 @@ retired-spec =
     enum-told
     enum-told-2
     cast-i
-    element-write-next
+    with-mark-requires
     returns
     returns-2)

@@ -7,7 +7,7 @@ use Rattle.thread_plan.proofs.join.outcome_of.Statement.{statement}
 use Rattle.thread_plan.proofs.join.outcome_of.Tie as tie
 use Rattle.thread_plan.proofs.join.outcome_of.Reads as reads
 use Rattle.thread_plan.proofs.join.outcome_of.Lts as lts
-use Rattle.records.proofs.read.join_outcome.Reads as join-outcome-reads
+use Rattle.record_reads.proofs.read.join_outcome.Reads as join-outcome-reads
 
 cast-i : tie.Need-cast-i
 cast-i c = search needs

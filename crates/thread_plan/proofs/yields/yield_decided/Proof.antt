@@ -16,7 +16,7 @@ use Rattle.thread_plan.proofs.yields.yield_decided.Statement.{statement
 use Rattle.thread_plan.proofs.yields.yield_decided.Tie as tie
 use Rattle.thread_plan.proofs.yields.yield_decided.Reads as reads
 use Rattle.thread_plan.proofs.yields.yield_decided.Lts as lts
-use Rattle.records.proofs.read.yields_of.Reads as yields-of-reads
+use Rattle.record_reads.proofs.read.yields_of.Reads as yields-of-reads
 use Rattle.thread_plan.proofs.own.own_tid.Reads as own-tid-reads
 use Rattle.thread_plan.proofs.yields.check_yield.Reads as check-yield-reads
 

@@ -15,7 +15,7 @@ same-length : tie.Need-same-length
 same-length c = search needs
 
 returns : tie.Need-returns
-returns c = search needs
+returns c = record { within = search needs; behind = λ h. c .before .before .put .ensures; first = λ h k. absurd (omega arith) }
 
 slice-reshare-prefix-write-all : tie.Need-slice-reshare-prefix-write-all
 slice-reshare-prefix-write-all c = search needs
@@ -33,7 +33,7 @@ same-length-2 : tie.Need-same-length-2
 same-length-2 c = search needs
 
 returns-2 : tie.Need-returns-2
-returns-2 c = search needs
+returns-2 c = record { within = search needs; behind = λ h. absurd (omega arith); first = λ h k. c .before .before .put-first .ensures .behind (omega arith) }
 
 pub put-text-spec : {M : Type 1} → statement M
 put-text-spec =

@@ -1,0 +1,2 @@
+-- What a line up to `cores=` says.
+pub mod Cores

@@ -1,0 +1,2 @@
+-- What the values of the program stand for.
+pub mod Reading

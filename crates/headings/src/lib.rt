@@ -1,0 +1,13 @@
+// The lines of a script up to `cores=` read by the program.
+use rcfg::Head;
+use settings::Refusal;
+use settings::SchedConfig;
+
+pub mod heading;
+
+// What a line up to `cores=` makes of the lines before it.
+pub enum HeadingRead {
+    More(Head),
+    Done { config: SchedConfig, cores: u32 },
+    Refused(Refusal),
+}

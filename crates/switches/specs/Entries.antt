@@ -1,0 +1,16 @@
+-- What one move makes of the entry of the core that it touches.
+use Prim.Native.Nat.{ℕ}
+use mathlib.Core.Option.{some}
+use Rattle.model.specs.Types.{Move, starts, leaves, takes, SwitchEntry}
+
+-- the core that a move touches; 8: none
+abbrev pub coreTouched : Move → ℕ
+coreTouched (starts t) = 8
+coreTouched (leaves t i r) = i
+coreTouched (takes t i) = i
+
+-- 01: "One entry per core touched, …: thread out with reason, thread in."
+abbrev pub entryAfter : Move → SwitchEntry → SwitchEntry
+entryAfter (starts t) e = e
+entryAfter (leaves t i r) e = record { core = i; out = some (record { tid = t; reason = r }); inn = e .inn }
+entryAfter (takes t i) e = record { core = i; out = e .out; inn = some t }

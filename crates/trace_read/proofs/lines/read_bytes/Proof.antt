@@ -1,0 +1,59 @@
+use borrow.Author.Needs.{needs}
+use Prim.Native.Nat.{_≤_, _-_}
+use mathlib.Core.Path.{_≡_}
+use lib.ListN.{length}
+use Rattle.trace_read.proofs.lines.read_bytes.Statement.{statement}
+use Rattle.trace_read.proofs.lines.read_bytes.Tie as tie
+
+abbrev Inv-loop : tie.InvT-loop
+Inv-loop buffer₀ i₀ buffer i = (i ≤ length buffer) × (length buffer ≡ length buffer₀)
+
+abbrev μ-loop : tie.MeasureT-loop
+μ-loop buffer₀ i₀ buffer i = length buffer - i
+
+loop-holds : tie.Need-loop-holds Inv-loop μ-loop
+loop-holds c = search needs
+
+read-byte-requires : tie.Need-read-byte-requires Inv-loop μ-loop
+read-byte-requires c κs = search needs
+
+same-length : tie.Need-same-length Inv-loop μ-loop
+same-length c = search needs
+
+returns : tie.Need-returns Inv-loop μ-loop
+returns c = search needs
+
+set-byte-requires : tie.Need-set-byte-requires Inv-loop μ-loop
+set-byte-requires c κs = search needs
+
+add-i : tie.Need-add-i Inv-loop μ-loop
+add-i c = search needs
+
+loop-less : tie.Need-loop-less Inv-loop μ-loop
+loop-less c = search needs
+
+loop-again : tie.Need-loop-again Inv-loop μ-loop
+loop-again c = search needs
+
+same-length-2 : tie.Need-same-length-2 Inv-loop μ-loop
+same-length-2 c = search needs
+
+returns-2 : tie.Need-returns-2 Inv-loop μ-loop
+returns-2 c = search needs
+
+pub read-bytes-spec : {M : Type 1} → statement M
+read-bytes-spec =
+    tie.close
+    (tie.spec
+    Inv-loop
+    μ-loop
+    loop-holds
+    read-byte-requires
+    same-length
+    returns
+    set-byte-requires
+    add-i
+    loop-less
+    loop-again
+    same-length-2
+    returns-2)

@@ -1,0 +1,4 @@
+// A trace's records, written as lines: one thread's record, the log and the timelines. Nothing here has a slice of thread records.
+// No contract can say what is written; those here keep the positions within the buffers.
+pub mod history;
+pub mod thread;
