@@ -29,7 +29,7 @@ pub fn lane_of(s: CoreState) -> Lane
 }
 
 // One core's timeline, in the words from `start` up to `end`.
-fn charge_part(
+pub fn charge_part(
     lanes: &mut [u64],
     start: usize,
     end: usize,

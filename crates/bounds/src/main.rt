@@ -7,7 +7,7 @@
 use libc::STDOUT_FILENO;
 use model::OptionOut;
 use model::OptionTid;
-use model::Switch;
+use model::SwitchWords;
 use model::ThreadInfo;
 use records::change::first_thread;
 use replay_array::ReplayedArray;
@@ -17,6 +17,7 @@ use settings::SchedConfig;
 use settings::SchedPolicy;
 use state::Capacities;
 use switches::SwitchList;
+use switches::switch_of;
 ghost use Prim.Native.Nat.{_≤_};
 
 const CALLS: usize = 3_000;
@@ -281,7 +282,8 @@ fn leaves(list: SwitchList) -> bool {
     false
 }
 
-fn comes(e: Switch) -> bool {
+fn comes(w: SwitchWords) -> bool {
+    let e = switch_of(w);
     let inn = e.inn;
     match inn {
         OptionTid::Some(t) => t.0 == 0,
@@ -289,7 +291,8 @@ fn comes(e: Switch) -> bool {
     }
 }
 
-fn goes(e: Switch) -> bool {
+fn goes(w: SwitchWords) -> bool {
+    let e = switch_of(w);
     let out = e.out;
     match out {
         OptionOut::Some(o) => o.tid.0 == 0,

@@ -1,7 +1,7 @@
 // A call line read: its key, then its value as the key wants it.
 ghost use mathlib.Core.Path.{_≡_};
 ghost use mathlib.Core.Option.{some};
-ghost use Rattle.text.specs.Lines.{keyIn};
+ghost use Rattle.text.specs.Bytes.{lookup};
 ghost use Rattle.script.specs.Script.{callKeys, callOf, calling, callLine, SpawnKey, ExitKey, JoinKey, RetiredKey, YieldKey, PrioKey, ForceKey, TickKey, CloseKey};
 ghost use Rattle.commands.specs.Reading.{callKeyMeant, callReadMeant};
 use crate::CallKey;
@@ -20,17 +20,12 @@ use model::Tid;
 use settings::Refusal;
 use text::lines::equals_at;
 use text::lines::is_same;
-use text::lines::value;
+use text::lines::trimmed;
 
-// What the key of a line is.
-pub fn call_key(line: &[u8]) -> CallKey
-    ensures { λ r. ⌜ callKeyMeant r ≡ keyIn callKeys (now (line .entry)) ⌝ }
+// The call that a key names.
+pub fn call_key(key: &[u8]) -> CallKey
+    ensures { λ r. ⌜ callKeyMeant r ≡ lookup (now (key .entry)) callKeys ⌝ }
 {
-    let p = equals_at(line);
-    if p == line.len() {
-        return CallKey::Unknown;
-    }
-    let key = &line[..p];
     if is_same(key, b"spawn") {
         return CallKey::Spawn;
     }
@@ -164,5 +159,10 @@ pub fn call_of(key: CallKey, v: &[u8]) -> CallRead
 pub fn read_call(line: &[u8]) -> CallRead
     ensures { λ r. ⌜ callReadMeant r ≡ callLine (now (line .entry)) ⌝ }
 {
-    call_of(call_key(line), value(line))
+    let p = equals_at(line);
+    if p == line.len() {
+        return CallRead::Refused(Refusal::BadLine);
+    }
+    let from = p + 1;
+    call_of(call_key(&line[..p]), trimmed(&line[from..]))
 }

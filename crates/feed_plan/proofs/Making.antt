@@ -21,7 +21,7 @@ use Rattle.switches.specs.declared.SwitchList.{SwitchList}
 use Rattle.summary.specs.Reading.{Summed}
 use Rattle.new_plan.specs.declared.Created.{Created}
 use Rattle.sched.specs.declared.Outcome.the-variants as OutcomeCases
-use Rattle.sched.specs.Answers.{noSwitches}
+use Rattle.switches.specs.Entries.{noSwitches}
 use Rattle.script.specs.Report.{answerText, refusedText, joinedText, switchTexts, summary, finishing, finish}
 use Rattle.feed_plan.specs.declared.Stage.{Stage}
 use Rattle.feed_plan.specs.declared.Stage.the-variants as StageCases

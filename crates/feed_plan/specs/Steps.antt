@@ -16,7 +16,7 @@ use Rattle.new_plan.specs.declared.Created.{Created}
 use Rattle.sched.specs.declared.Applied.{Applied}
 use Rattle.sched.specs.declared.Outcome.{Outcome}
 use Rattle.sched.specs.declared.Outcome.the-variants as OutcomeCases
-use Rattle.sched.specs.Answers.{noSwitches}
+use Rattle.switches.specs.Entries.{noSwitches}
 use Rattle.sched.specs.Meant.{callMeant, outcomeMeant}
 use Rattle.script.specs.Report as Definition
 use Rattle.feed_plan.specs.declared.Stage.{Stage}

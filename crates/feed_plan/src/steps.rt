@@ -4,10 +4,6 @@ use crate::Plain;
 use crate::Report;
 use crate::Stage;
 use model::CallAnswer;
-use model::CoreId;
-use model::OptionOut;
-use model::OptionTid;
-use model::Switch;
 use new_plan::Created;
 use rcfg::Head;
 use sched::Applied;
@@ -16,9 +12,9 @@ use settings::Refusal;
 use state::Capacities;
 use state::Sched;
 use switches::SwitchList;
+use switches::no_switches;
 ghost use mathlib.Core.Path.{_≡_};
 ghost use Prim.Native.Nat.{_≤_};
-ghost use Rattle.sched.specs.Answers.{noSwitches};
 ghost use Rattle.feed_plan.specs.Steps.{reportCapacities, refusedStage, quietNext, refusedNext, headedNext, calledNext, plainNext, createdNext, appliedNext, PlainFits};
 
 // "T 256, E 512, S 256"
@@ -29,21 +25,6 @@ pub fn capacities() -> Capacities
         threads: 256,
         events: 512,
         segments: 256,
-    }
-}
-
-// The list where no switch is due.
-fn no_switches() -> SwitchList
-    ensures { λ r. ⌜ r ≡ noSwitches ⌝ }
-{
-    let none = Switch {
-        core: CoreId(0),
-        out: OptionOut::None,
-        inn: OptionTid::None,
-    };
-    SwitchList {
-        entries: [none; 8],
-        count: 0,
     }
 }
 

@@ -9,7 +9,7 @@ use lib.ListN.{length, take, drop, getD}
 use lib.Seq.{length-take-le, drop-at, length-front}
 use Rattle.settings.specs.declared.Refusal.{Refusal}
 use Rattle.settings.specs.Reading.{policyMeant, refusalNumber}
-use Rattle.model.specs.declared.Switch as Switches
+use Rattle.model.specs.declared.SwitchWords.{SwitchWords}
 use Rattle.model.specs.declared.CoreState as Program
 use Rattle.model.specs.declared.CoreState.the-variants as CoreStateCases
 use Rattle.model.specs.declared.CallAnswer.{CallAnswer}
@@ -84,7 +84,7 @@ module _ (s : Sched) (ts : List ThreadInfo) (qs ps ls ws : List ℕ) (nm : Optio
 
   ---- refused: nothing is decided, and there are no moves
 
-  pub pending-refused : (i : ℕ) → Valid s ts qs ps ls ws → AskedAt s nm qs ps at → (a : CallAnswer) (x : Refusal) (entries : List Switches.Switch) (count : ℕ) → a ≡ CallCases.Refused x → checkMeant a ≡ forceRefusal s i nm at
+  pub pending-refused : (i : ℕ) → Valid s ts qs ps ls ws → AskedAt s nm qs ps at → (a : CallAnswer) (x : Refusal) (entries : List SwitchWords) (count : ℕ) → a ≡ CallCases.Refused x → checkMeant a ≡ forceRefusal s i nm at
       → ForcePending i nm (switchAnswerMeant a entries count) s s 0 ts qs qs ps ls ls ws ws
   pending-refused i v p a x entries count e h =
       record {

@@ -1,5 +1,5 @@
 -- Which part of the definition a value of the program's types stands for. Contracts read the program's values through these.
-use Prim.Native.Nat.{ℕ}
+use Prim.Native.Nat.{ℕ, zero, suc}
 use mathlib.Core.Option.{Option, none, some}
 use mathlib.Core.List.{List, map}
 use lib.ListN.{take}
@@ -35,6 +35,7 @@ use Rattle.model.specs.declared.SchedEventKind.the-variants as EventCase
 use Rattle.model.specs.declared.SchedEvent.{SchedEvent}
 use Rattle.model.specs.declared.SwitchOut.{SwitchOut}
 use Rattle.model.specs.declared.Switch as Switches
+use Rattle.model.specs.declared.SwitchWords.{SwitchWords}
 use Rattle.model.specs.declared.JoinOutcome as JoinOutcomes
 use Rattle.model.specs.declared.JoinOutcome.the-variants as JoinCases
 use Rattle.model.specs.declared.CallAnswer.{CallAnswer}
@@ -143,9 +144,26 @@ optionOutMeant (OptionOutCases.Some o) = some (record { tid = o .tid .0; reason 
 abbrev pub switchMeant : Switches.Switch → SwitchEntry
 switchMeant s = record { core = s .core .0; out = optionOutMeant (s .out); inn = optionTidMeant (s .inn) }
 
+-- the same in numbers: who leaves, for which reason, and who comes
+abbrev pub outFrom : (reason tid : ℕ) → Option Out
+outFrom zero t = none
+outFrom (suc zero) t = some (record { tid = t; reason = Exit })
+outFrom (suc (suc zero)) t = some (record { tid = t; reason = Block })
+outFrom (suc (suc (suc zero))) t = some (record { tid = t; reason = Yield })
+outFrom (suc (suc (suc (suc zero)))) t = some (record { tid = t; reason = Quantum })
+outFrom (suc (suc (suc (suc (suc zero))))) t = some (record { tid = t; reason = Preempt })
+outFrom (suc (suc (suc (suc (suc (suc r)))))) t = some (record { tid = t; reason = Forced })
+
+abbrev pub innFrom : (taken tid : ℕ) → Option ℕ
+innFrom zero t = none
+innFrom (suc k) t = some t
+
+abbrev pub switchWordsMeant : SwitchWords → SwitchEntry
+switchWordsMeant w = record { core = w .core .0; out = outFrom (w .reason) (w .left .0); inn = innFrom (w .taken) (w .came .0) }
+
 -- a switch list in the front of an array
-abbrev pub switchesMeant : List Switches.Switch → (count : ℕ) → List SwitchEntry
-switchesMeant entries count = map switchMeant (take count entries)
+abbrev pub switchesMeant : List SwitchWords → (count : ℕ) → List SwitchEntry
+switchesMeant entries count = map switchWordsMeant (take count entries)
 
 ---- answers
 
@@ -167,6 +185,6 @@ joinAnswerMeant (JoinAnswerCases.Joined o) = joined (joinMeant o)
 joinAnswerMeant (JoinAnswerCases.Refused r) = refused (refusalNumber r)
 
 -- an answer with a switch list: the list counts where the call is taken
-abbrev pub switchAnswerMeant : CallAnswer → List Switches.Switch → (count : ℕ) → Answer
+abbrev pub switchAnswerMeant : CallAnswer → List SwitchWords → (count : ℕ) → Answer
 switchAnswerMeant CallCases.Taken entries count = switched (switchesMeant entries count)
 switchAnswerMeant (CallCases.Refused r) entries count = refused (refusalNumber r)

@@ -31,11 +31,11 @@ pub enum CoreState {
     Running { tid: Tid, slice: u32 },
 }
 
-// One core's three counters.
+// One core's three counters. None passes `now`, which fits 32 bits; the state is copied in each call, so they take no more.
 pub struct CoreTicks {
-    pub busy: u64,
-    pub switching: u64,
-    pub idle: u64,
+    pub busy: u32,
+    pub switching: u32,
+    pub idle: u32,
 }
 
 // What filled a stretch of a core's timeline.
@@ -138,6 +138,16 @@ pub struct Switch {
     pub core: CoreId,
     pub out: OptionOut,
     pub inn: OptionTid,
+}
+
+// The same in numbers, as a switch list keeps it: `reason` is 0 where nobody leaves, `taken` where nobody comes. A list is copied in each call, and a copy
+// of an enum moves the bytes behind its tag one by one.
+pub struct SwitchWords {
+    pub core: CoreId,
+    pub left: Tid,
+    pub came: Tid,
+    pub reason: u16,
+    pub taken: u16,
 }
 
 // How a `join` turned out.

@@ -139,6 +139,10 @@ module _ (c : SchedConfig) (n : ℕ) (k : Capacities) (entry : ℕ) (ts : List T
     unfolding initialState
     some-segment = bounded .settings .capS
 
+    few-segments : k .segments ≤ 4096
+    unfolding initialState
+    few-segments = bounded .settings .capS′
+
     few-events : k .events ≤ 512
     unfolding initialState
     few-events = bounded .settings .capE′
@@ -235,7 +239,7 @@ module _ (c : SchedConfig) (n : ℕ) (k : Capacities) (entry : ℕ) (ts : List T
         let e : (i + 1) * (2 * k .segments) ≡ i * (2 * k .segments) + 2 * k .segments = one-more i (2 * k .segments) in
         let d : length (drop (laneStart (k .segments) i) ws) ≡ length ws - laneStart (k .segments) i = length-drop (laneStart (k .segments) i) ws in
         let w : length (laneWords (k .segments) i ws) ≡ 2 * k .segments = length-take-le (2 * k .segments) (drop (laneStart (k .segments) i) ws) (omega arith) in
-        rw (no-lane i) (ring-empty (laneWords (k .segments) i ws) noPos (k .segments) (omega arith) (let g = some-segment h in omega arith) refl)
+        rw (no-lane i) (ring-empty (laneWords (k .segments) i ws) noPos (k .segments) (omega arith) (let g = few-segments h in omega arith) (let g = some-segment h in omega arith) refl)
 
     unused-idle : (i : ℕ) → coreCount n ≤ i → own i ≡ idleCore
     unused-idle zero l = absurd (count-some n l)

@@ -122,8 +122,8 @@ first-put words ls b p h l k e =
     let f : take words (b ++ drop words ls) ≡ b = take-at b (drop words ls) words z in
     record { ok = rw f k; events = rw f e; rest = drop-at b (drop words ls) words z; long = simp (length-append, length-drop) (omega arith) }
 
-pub log-empty : (e : ℕ) (ls : List ℕ) → 1 ≤ e → 2 * e ≤ length ls → RingOK (take (2 * e) ls) noPos
-log-empty e ls h g = let l : length (take (2 * e) ls) ≡ 2 * e = length-take-le (2 * e) ls g in ring-empty (take (2 * e) ls) noPos e (omega arith) (omega arith) refl
+pub log-empty : (e : ℕ) (ls : List ℕ) → 1 ≤ e → e ≤ 512 → 2 * e ≤ length ls → RingOK (take (2 * e) ls) noPos
+log-empty e ls h k g = let l : length (take (2 * e) ls) ≡ 2 * e = length-take-le (2 * e) ls g in ring-empty (take (2 * e) ls) noPos e (omega arith) (omega arith) (omega arith) refl
 
 ---- the call's end
 

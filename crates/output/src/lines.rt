@@ -8,9 +8,11 @@ use model::JoinOutcome;
 use model::OptionOut;
 use model::OptionTid;
 use model::Switch;
+use model::SwitchWords;
 use model::Tick;
 use settings::Refusal;
 use switches::SwitchList;
+use switches::switch_of;
 use text::put::put;
 ghost use mathlib.Core.List.{_∷_, []};
 ghost use Prim.Native.Nat.{_+_, _<_, _≤_, _^_};
@@ -19,7 +21,7 @@ ghost use Rattle.text.specs.Bytes.{decimal};
 ghost use Rattle.text.specs.Lines.{commas};
 ghost use Rattle.text.specs.Buffers.{Put};
 ghost use Rattle.settings.specs.Reading.{refusalNumber};
-ghost use Rattle.model.specs.Reading.{optionTidMeant, optionOutMeant, joinMeant, switchMeant, switchesMeant};
+ghost use Rattle.model.specs.Reading.{optionTidMeant, optionOutMeant, joinMeant, switchMeant, switchWordsMeant, switchesMeant};
 ghost use Rattle.script.specs.Report.{maybe, outTid, outReason, joinWord, switchText, switchTexts, joinedText, refusedText};
 
 // Two numbers and the comma between them.
@@ -91,8 +93,16 @@ fn put_switch(out: &mut [u8], at: usize, tick: Tick, s: Switch) -> usize
     put(out, d, b"\n")
 }
 
+// The same of an entry as a switch list keeps it.
+fn put_entry(out: &mut [u8], at: usize, tick: Tick, w: SwitchWords) -> usize
+    requires { ⌜ at + length (switchText (tick .0) (switchWordsMeant w)) ≤ length (now out) ⌝ }
+    ensures { λ r. ⌜ Put (now (out .entry)) at (switchText (tick .0) (switchWordsMeant w)) (now (out .exit)) r ⌝ }
+{
+    put_switch(out, at, tick, switch_of(w))
+}
+
 // A line for each of the first n entries, in order; there are no more than eight, whatever n is.
-fn put_entries(out: &mut [u8], at: usize, tick: Tick, entries: [Switch; 8], n: usize) -> usize
+fn put_entries(out: &mut [u8], at: usize, tick: Tick, entries: [SwitchWords; 8], n: usize) -> usize
     requires { ⌜ at + length (switchTexts (tick .0) (switchesMeant entries n)) ≤ length (now out) ⌝ }
     ensures { λ r. ⌜ Put (now (out .entry)) at (switchTexts (tick .0) (switchesMeant entries n)) (now (out .exit)) r ⌝ }
 {
@@ -104,7 +114,7 @@ fn put_entries(out: &mut [u8], at: usize, tick: Tick, entries: [Switch; 8], n: u
             return end;
         }
         let e = es[i];
-        end = put_switch(out, end, tick, e);
+        end = put_entry(out, end, tick, e);
         i += 1;
     }
     end

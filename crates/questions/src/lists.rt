@@ -40,7 +40,7 @@ pub fn event_count(s: Sched) -> usize
     ensures { λ r. ⌜ ((ts : List ThreadInfo) (qs ps ls ws : List ℕ) → Valid s ts qs ps ls ws → r ≡ length (meant s ts qs ls ws .accounts .log)) ⌝ }
 {
     let pos = s.log;
-    pos.len
+    pos.len as usize
 }
 
 // How many segments a core's timeline holds.
@@ -50,7 +50,7 @@ pub fn segment_count(s: Sched, core: CoreId) -> usize
 {
     let i = core.0 as usize;
     let pos = s.lanes[i];
-    pos.len
+    pos.len as usize
 }
 
 // Segment k of a core's timeline, oldest first.

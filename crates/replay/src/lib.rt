@@ -1,9 +1,7 @@
 // A list of calls, made one after the other on a fresh scheduler. Its contract is the round robin guarantee over lists of calls.
 use model::CallAnswer;
 use model::CoreId;
-use model::OptionOut;
 use model::OptionTid;
-use model::Switch;
 use model::ThreadInfo;
 use model::Tid;
 use new_plan::Created;
@@ -16,6 +14,7 @@ use settings::SchedConfig;
 use state::Capacities;
 use state::Sched;
 use switches::SwitchList;
+use switches::no_switches;
 ghost use mathlib.Core.Path.{_≡_};
 ghost use Prim.Native.Nat.{_+_, _*_, _<_, _≤_, min};
 ghost use lib.ListN.{length, take};
@@ -94,15 +93,7 @@ fn first_of(created: Created) -> Applied
     ensures { λ r. ⌜ (r .sched ≡ created .sched) × (outcomeMeant (r .outcome) (r .switches) ≡ ok) ⌝ }
 {
     let sched = created.sched;
-    let none = Switch {
-        core: CoreId(0),
-        out: OptionOut::None,
-        inn: OptionTid::None,
-    };
-    let switches = SwitchList {
-        entries: [none; 8],
-        count: 0,
-    };
+    let switches = no_switches();
     let outcome = Outcome::Taken;
     Applied {
         sched,

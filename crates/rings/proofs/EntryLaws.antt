@@ -116,7 +116,7 @@ module _ (b b' : List ℕ) (p : RingPos) (e : Entry) (slot : ℕ) (ok : RingOK b
       let c : length xs ≡ capacity b = count b in
       let l' : p .len < length xs = omega arith in
       let one : p .len + 1 - p .len ≡ 1 = omega arith in (
-        record { whole = rw size (ok .whole); inside = rw size slot-inside; within = rw size (omega arith) },
+        record { whole = rw size (ok .whole); small = rw size (ok .small); inside = rw size slot-inside; within = rw size (omega arith) },
         (
           seen (λ (i : ℕ) (ys : List Entry). view i (p .len + 1) ys) ∙ push-room xs (p .last) (p .len) in-slots within-slots e l' ∙ ap (λ (n : ℕ). newest n (view (p .last) (p .len) xs ++ (e ∷ []))) c,
           record { longer = omega arith; rest = seen (λ (i : ℕ) (ys : List Entry). unused i (p .len + 1) ys) ∙ push-room-unused xs (p .last) (p .len) in-slots within-slots e l' ∙ ap (λ (n : ℕ). drop n (unused (p .last) (p .len) xs)) (sym one) },
@@ -130,7 +130,7 @@ module _ (b b' : List ℕ) (p : RingPos) (e : Entry) (slot : ℕ) (ok : RingOK b
       let c : length xs ≡ capacity b = count b in
       let f' : length xs ≤ p .len = omega arith in
       let none : p .len - p .len ≡ 0 = omega arith in (
-        record { whole = rw size (ok .whole); inside = rw size slot-inside; within = rw size (ok .within) },
+        record { whole = rw size (ok .whole); small = rw size (ok .small); inside = rw size slot-inside; within = rw size (ok .within) },
         (
           seen (λ (i : ℕ) (ys : List Entry). view i (p .len) ys) ∙ push-full xs (p .last) (p .len) in-slots within-slots e f' ∙ ap (λ (n : ℕ). newest n (view (p .last) (p .len) xs ++ (e ∷ []))) c,
           record { longer = omega arith; rest = seen (λ (i : ℕ) (ys : List Entry). unused i (p .len) ys) ∙ push-full-unused xs (p .last) (p .len) in-slots within-slots e f' ∙ ap (λ (n : ℕ). drop n (unused (p .last) (p .len) xs)) (sym none) },
@@ -182,7 +182,7 @@ module _ (b : List ℕ) (p : RingPos) (ok : RingOK b p) where
       let new : entrySlots (set b (p .last * 2) w) ≡ set xs (p .last) e = simp length-set (first-set b (p .last) w (ok .inside)) in
       let z : p .len - p .len ≡ 0 = omega arith in
       record {
-        valid = record { whole = simp length-set (ok .whole); inside = simp length-set (ok .inside); within = simp length-set (ok .within) };
+        valid = record { whole = simp length-set (ok .whole); small = simp length-set (ok .small); inside = simp length-set (ok .inside); within = simp length-set (ok .within) };
         entries = ap (view (p .last) (p .len)) new ∙ view-set xs (p .last) (p .len) last-in len-in e l;
         behind = record { longer = omega arith; rest = ap (unused (p .last) (p .len)) new ∙ unused-set xs (p .last) (p .len) last-in len-in e l ∙ ap (λ (j : ℕ). drop j (unused (p .last) (p .len) xs)) (sym z) };
       }
@@ -194,8 +194,8 @@ unfolding entriesIn newest
 entries-none b p z = rw z (newest-none (byAge (p .last) (entrySlots b)))
 
 -- a memory for n entries, with none in it
-pub ring-empty : (b : List ℕ) (p : RingPos) (n : ℕ) → length b ≡ n * 2 → p .last < n → p .len ≡ 0 → RingOK b p
-ring-empty b p n s l z = record { whole = omega arith; inside = omega arith; within = omega arith }
+pub ring-empty : (b : List ℕ) (p : RingPos) (n : ℕ) → length b ≡ n * 2 → n < 65_536 → p .last < n → p .len ≡ 0 → RingOK b p
+ring-empty b p n s k l z = record { whole = omega arith; small = omega arith; inside = omega arith; within = omega arith }
 
 pub capacity-of : (b : List ℕ) (n : ℕ) → length b ≡ n * 2 → capacity b ≡ n
 capacity-of b n s = omega arith

@@ -71,8 +71,8 @@ module _ (n i : ℕ) (m : List ℕ) (fits : (i + 1) * (n * 2) ≤ length m) wher
   width = simp (length-take, length-drop) (omega (arith, inside))
 
   -- a timeline with nothing in it
-  pub timeline-empty : (p : RingPos) → p .last < n → p .len ≡ 0 → RingOK (timelineOf n i m) p
-  timeline-empty p l z = ring-empty (timelineOf n i m) p n width l z
+  pub timeline-empty : (p : RingPos) → n < 65_536 → p .last < n → p .len ≡ 0 → RingOK (timelineOf n i m) p
+  timeline-empty p k l z = ring-empty (timelineOf n i m) p n width k l z
 
 -- what charge_core ensures, from what charge_lane ensures of the part
 module _ (n i now : ℕ) (lane : Lane) (m r : List ℕ) (p p' : RingPos) (fits : (i + 1) * (n * 2) ≤ length m) where

@@ -53,6 +53,7 @@ unusedIn b p = unused (p .last) (p .len) (slots (entryAt b) 0 (capacity b))
 -- a position that fits the memory: what each function asks, and leaves
 pub record RingOK (b : List ℕ) (p : RingPos) : Type 0 where
   pub whole : length b % 2 ≡ 0
+  pub small : capacity b < 65_536
   pub inside : p .last < capacity b
   pub within : p .len ≤ capacity b
 

@@ -6,8 +6,8 @@ pub mod ring;
 pub mod timeline;
 
 // The slot of the newest entry, and the number of entries. It is the newest that a growing segment changes, so its slot is
-// at hand. An empty ring may have any slot here.
+// at hand. An empty ring may have any slot here. A ring has fewer than 65,536 slots: a state holds nine positions and is copied in each call.
 pub struct RingPos {
-    pub last: usize,
-    pub len: usize,
+    pub last: u16,
+    pub len: u16,
 }

@@ -51,20 +51,20 @@ pub fn push_entry(ring: &mut [u64], pos: RingPos, entry: Entry) -> RingPos
     ensures entries { λ r. ⌜ entriesIn (now (ring .exit)) r ≡ newest (capacity (now (ring .entry))) (entriesIn (now (ring .entry)) pos ++ (entry ∷ [])) ⌝ }
     ensures behind { λ r. ⌜ Behind (now (ring .entry)) (now (ring .exit)) pos r ⌝ }
 {
-    let last = pos.last;
-    let len = pos.len;
+    let last = pos.last as usize;
+    let len = pos.len as usize;
     let slots = ring.len() / 2;
     let next = next_slot(slots, last);
     store_entry(ring, next, entry);
     if len < slots {
         return RingPos {
-            last: next,
-            len: len + 1,
+            last: next as u16,
+            len: (len + 1) as u16,
         };
     }
     RingPos {
-        last: next,
-        len: len,
+        last: next as u16,
+        len: pos.len,
     }
 }
 
@@ -73,8 +73,8 @@ pub fn entry_at(ring: &[u64], pos: RingPos, k: usize) -> Entry
     requires { ⌜ RingOK (now ring) pos × (k < pos .len) ⌝ }
     ensures { λ r. ⌜ some r ≡ getElem? (entriesIn (now (ring .entry)) pos) k ⌝ }
 {
-    let last = pos.last;
-    let len = pos.len;
+    let last = pos.last as usize;
+    let len = pos.len as usize;
     let slot = slot_before(ring.len() / 2, last, len - 1 - k);
     Entry {
         first: ring[slot * 2],

@@ -104,8 +104,8 @@ pub fn charge_lane(ring: &mut [u64], pos: RingPos, tick: Tick, lane: Lane) -> Ri
     ensures segments { λ r. ⌜ segmentsIn (now (ring .exit)) r ≡ newest (capacity (now (ring .entry))) (grown (tick .0) (laneMeant lane) (segmentsIn (now (ring .entry)) pos)) ⌝ }
     ensures behind { λ r. ⌜ Behind (now (ring .entry)) (now (ring .exit)) pos r ⌝ }
 {
-    let last = pos.last;
-    let len = pos.len;
+    let last = pos.last as usize;
+    let len = pos.len as usize;
     if len == 0 {
         return begin_segment(ring, pos, tick, lane);
     }

@@ -14,7 +14,8 @@ use Rattle.sched_threads.specs.declared.answers.JoinAnswered.{JoinAnswered}
 use Rattle.tick_plan.specs.declared.Ticked.{Ticked}
 use Rattle.sched.specs.declared.Applied.{Applied}
 use Rattle.sched.specs.Meant.{outcomeMeant}
-use Rattle.sched.specs.Answers.{noSwitches, taken, spawned, joined, switched, ofAnswered, ofSpawn, ofJoin, ofTicked}
+use Rattle.switches.specs.Entries.{noSwitches}
+use Rattle.sched.specs.Answers.{taken, spawned, joined, switched, ofAnswered, ofSpawn, ofJoin, ofTicked}
 
 pub made-answered : (a : Answered) (x : CallAnswer) (l : SwitchList) → a .answer ≡ x → l ≡ noSwitches → _≡_ {A = Applied} (record { sched = a .sched; outcome = taken x; switches = l }) (ofAnswered a)
 made-answered a x l e h = λ i. record { sched = a .sched; outcome = taken (sym e i); switches = h i }

@@ -1,15 +1,11 @@
 -- The answers of the calls, as one kind of answer.
-use mathlib.Core.List.{List, [], _∷_}
-use lib.ListN.{replicate}
 use Rattle.model.specs.declared.CallAnswer.{CallAnswer}
 use Rattle.model.specs.declared.CallAnswer.the-variants as CallCases
 use Rattle.model.specs.declared.SpawnAnswer.{SpawnAnswer}
 use Rattle.model.specs.declared.SpawnAnswer.the-variants as SpawnCases
 use Rattle.model.specs.declared.JoinAnswer.{JoinAnswer}
 use Rattle.model.specs.declared.JoinAnswer.the-variants as JoinCases
-use Rattle.model.specs.declared.OptionTid.the-variants as TidCases
-use Rattle.model.specs.declared.OptionOut.the-variants as OutCases
-use Rattle.switches.specs.declared.SwitchList.{SwitchList}
+use Rattle.switches.specs.Entries.{noSwitches}
 use Rattle.sched_marks.specs.declared.Answered.{Answered}
 use Rattle.sched_threads.specs.declared.answers.SpawnAnswered.{SpawnAnswered}
 use Rattle.sched_threads.specs.declared.answers.JoinAnswered.{JoinAnswered}
@@ -17,9 +13,6 @@ use Rattle.tick_plan.specs.declared.Ticked.{Ticked}
 use Rattle.sched.specs.declared.Applied.{Applied}
 use Rattle.sched.specs.declared.Outcome.{Outcome}
 use Rattle.sched.specs.declared.Outcome.the-variants as OutcomeCases
-
-unfoldable pub noSwitches : SwitchList
-noSwitches = record { entries = replicate 8 (record { core = record { 0 = 0 }; out = OutCases.None; inn = TidCases.None }); count = 0 }
 
 abbrev pub taken : CallAnswer → Outcome
 taken CallCases.Taken = OutcomeCases.Taken

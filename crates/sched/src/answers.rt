@@ -2,34 +2,15 @@
 use crate::Applied;
 use crate::Outcome;
 use model::CallAnswer;
-use model::CoreId;
 use model::JoinAnswer;
-use model::OptionOut;
-use model::OptionTid;
 use model::SpawnAnswer;
-use model::Switch;
 use sched_marks::Answered;
 use sched_threads::answers::JoinAnswered;
 use sched_threads::answers::SpawnAnswered;
-use switches::SwitchList;
+use switches::no_switches;
 use tick_plan::Ticked;
 ghost use mathlib.Core.Path.{_≡_};
-ghost use Rattle.sched.specs.Answers.{noSwitches, ofAnswered, ofSpawn, ofJoin, ofTicked};
-
-// The list where no switch is due.
-fn no_switches() -> SwitchList
-    ensures { λ r. ⌜ r ≡ noSwitches ⌝ }
-{
-    let none = Switch {
-        core: CoreId(0),
-        out: OptionOut::None,
-        inn: OptionTid::None,
-    };
-    SwitchList {
-        entries: [none; 8],
-        count: 0,
-    }
-}
+ghost use Rattle.sched.specs.Answers.{ofAnswered, ofSpawn, ofJoin, ofTicked};
 
 pub fn of_answered(a: Answered) -> Applied
     ensures { λ r. ⌜ r ≡ ofAnswered a ⌝ }

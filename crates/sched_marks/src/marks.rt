@@ -49,9 +49,7 @@ fn with_mark(marks: [bool; 8], i: usize) -> [bool; 8]
 {
     let mut m = marks;
     for k in 0..8 {
-        if k == i {
-            m[k] = true;
-        }
+        m[k] = m[k] | (k == i);
     }
     m
 }

@@ -54,6 +54,19 @@ struct CoreTotals {
     all: u64,
 }
 
+// One core's counters.
+fn totals_of(t: CoreTicks) -> CoreTotals
+    ensures { λ r. ⌜ (r .busy ≡ t .busy) × (r .all ≡ allTicks t) ⌝ }
+{
+    let busy = t.busy as u64;
+    let switching = t.switching as u64;
+    let idle = t.idle as u64;
+    CoreTotals {
+        busy,
+        all: busy + switching + idle,
+    }
+}
+
 // The busy ticks and all ticks of the first n cores.
 fn core_totals(ticks: [CoreTicks; 8], n: usize) -> CoreTotals
     requires { ⌜ (n ≤ 8) × ((i : ℕ) → i < n → allTicks (getD ticks i noTicks) ≤ 4_000_000_000) ⌝ }
@@ -65,8 +78,9 @@ fn core_totals(ticks: [CoreTicks; 8], n: usize) -> CoreTotals
     let mut i: usize = 0;
     while i < n {
         let t = counters[i];
-        busy = busy + t.busy;
-        all = all + (t.busy + t.switching + t.idle);
+        let more = totals_of(t);
+        busy = busy + more.busy;
+        all = all + more.all;
         i += 1;
     }
     CoreTotals {

@@ -13,48 +13,56 @@ use borrow.Author.Tests.{eqb-true, eqb-false}
 use lib.Dec.{eqb}
 use lib.ListN.{length, getD, set, take, replicate, length-set, length-map, getD-replicate}
 use lib.Seq.{take-suc, getD-set-same, getD-set-other, length-take-le}
-use Rattle.model.specs.Types.{Move, starts, leaves, takes, SwitchEntry}
+use Rattle.model.specs.Types.{Forced, Move, starts, leaves, takes, SwitchEntry}
 use Rattle.model.specs.Accounting.{touched, switchList}
-use Rattle.model.specs.Reading.{switchMeant, switchesMeant}
-use Rattle.model.specs.declared.Switch as Program
-use Rattle.model.specs.declared.OptionOut.the-variants as OptionOutCases
-use Rattle.model.specs.declared.OptionTid.the-variants as OptionTidCases
+use Rattle.model.specs.Reading.{outFrom, innFrom, switchWordsMeant, switchesMeant}
+use Rattle.model.specs.declared.SwitchWords.{SwitchWords}
 use Rattle.model.proofs.LoopLaws.{switchList-append}
 use Rattle.queue.specs.Words.{decode, movesIn}
-use Rattle.switches.specs.Entries.{coreTouched, entryAfter}
+use Rattle.switches.specs.Entries.{coreTouched, entryAfter, noSwitch}
 use Rattle.switches.proofs.Cores.{cores, added, touch-cores, slot, placed, slot-placed, slot-within, placed-here, placed-other}
 use Rattle.switches.proofs.Few.{CoreBelow, word-below, few}
 
--- an entry of no core yet
-abbrev pub blank : Program.Switch
-blank = record { core = record { 0 = 0 }; out = OptionOutCases.None; inn = OptionTidCases.None }
+-- the numbers of an entry that no earlier case has
+pub forced-from : (w t : ℕ) → 0 < w → w ≢ 1 → w ≢ 2 → w ≢ 3 → w ≢ 4 → w ≢ 5 → outFrom w t ≡ some (record { tid = t; reason = Forced })
+forced-from zero t p a b c d e = absurd (omega arith)
+forced-from (suc zero) t p a b c d e = absurd (a refl)
+forced-from (suc (suc zero)) t p a b c d e = absurd (b refl)
+forced-from (suc (suc (suc zero))) t p a b c d e = absurd (c refl)
+forced-from (suc (suc (suc (suc zero)))) t p a b c d e = absurd (d refl)
+forced-from (suc (suc (suc (suc (suc zero))))) t p a b c d e = absurd (e refl)
+forced-from (suc (suc (suc (suc (suc (suc w)))))) t p a b c d e = refl
+
+pub came-from : (k t : ℕ) → k ≢ 0 → innFrom k t ≡ some t
+came-from zero t h = absurd (h refl)
+came-from (suc k) t h = refl
 
 abbrev untouched : ℕ → SwitchEntry
 untouched i = record { core = i; out = none; inn = none }
 
-abbrev BlankFrom : ℕ → List Program.Switch → Type 0
-BlankFrom n l = (j : ℕ) → n ≤ j → getD l j blank ≡ blank
+abbrev BlankFrom : ℕ → List SwitchWords → Type 0
+BlankFrom n l = (j : ℕ) → n ≤ j → getD l j noSwitch ≡ noSwitch
 
 -- f is what the definition does to core i's entry, g what the program does to the array's
 module _ (i : ℕ) (f g : SwitchEntry → SwitchEntry) (same : (e : SwitchEntry) → e .core ≡ i → g e ≡ f e) (new : g (untouched 0) ≡ f (untouched i)) where
   touch-stored :
-      (l : List Program.Switch) (n : ℕ) (x : Program.Switch) → BlankFrom n l → slot i (cores (switchesMeant l n)) < length l
-      → switchMeant x ≡ g (switchMeant (getD l (slot i (cores (switchesMeant l n))) blank))
+      (l : List SwitchWords) (n : ℕ) (x : SwitchWords) → BlankFrom n l → slot i (cores (switchesMeant l n)) < length l
+      → switchWordsMeant x ≡ g (switchWordsMeant (getD l (slot i (cores (switchesMeant l n))) noSwitch))
       → switchesMeant (set l (slot i (cores (switchesMeant l n))) x) (max n (suc (slot i (cores (switchesMeant l n))))) ≡ touched i f (switchesMeant l n)
   unfolding touched slot
   touch-stored [] n x b s e = absurd (not-suc-le-zero s)
-  touch-stored (y ∷ l) zero x b s e = ap (λ (z : SwitchEntry). z ∷ []) (e ∙ ap (λ (z : Program.Switch). g (switchMeant z)) (b 0 (omega arith)) ∙ new)
+  touch-stored (y ∷ l) zero x b s e = ap (λ (z : SwitchEntry). z ∷ []) (e ∙ ap (λ (z : SwitchWords). g (switchWordsMeant z)) (b 0 (omega arith)) ∙ new)
   touch-stored (y ∷ l) (suc n) x b s e = go (eqb (y .core .0) i) refl (touch-stored l n x (λ j h. b (suc j) (suc-le-suc h))) s e
     where
       at : ℕ
       at = slot i (cores (switchesMeant l n))
 
       go : (t : Bool) → eqb (y .core .0) i ≡ t
-          → (at < length l → switchMeant x ≡ g (switchMeant (getD l at blank)) → switchesMeant (set l at x) (max n (suc at)) ≡ touched i f (switchesMeant l n))
-          → cond t 0 (suc at) < suc (length l) → switchMeant x ≡ g (switchMeant (getD (y ∷ l) (cond t 0 (suc at)) blank))
-          → switchesMeant (set (y ∷ l) (cond t 0 (suc at)) x) (max (suc n) (suc (cond t 0 (suc at)))) ≡ cond t (f (switchMeant y) ∷ switchesMeant l n) (switchMeant y ∷ touched i f (switchesMeant l n))
-      go true q r s e = rw (suc-max-suc, max-zero) (ap (λ (z : SwitchEntry). z ∷ switchesMeant l n) (e ∙ same (switchMeant y) (eqb-true (y .core .0) i q)))
-      go false q r s e = rw suc-max-suc (ap (λ (z : List SwitchEntry). switchMeant y ∷ z) (r (le-of-suc-le-suc s) e))
+          → (at < length l → switchWordsMeant x ≡ g (switchWordsMeant (getD l at noSwitch)) → switchesMeant (set l at x) (max n (suc at)) ≡ touched i f (switchesMeant l n))
+          → cond t 0 (suc at) < suc (length l) → switchWordsMeant x ≡ g (switchWordsMeant (getD (y ∷ l) (cond t 0 (suc at)) noSwitch))
+          → switchesMeant (set (y ∷ l) (cond t 0 (suc at)) x) (max (suc n) (suc (cond t 0 (suc at)))) ≡ cond t (f (switchWordsMeant y) ∷ switchesMeant l n) (switchWordsMeant y ∷ touched i f (switchesMeant l n))
+      go true q r s e = rw (suc-max-suc, max-zero) (ap (λ (z : SwitchEntry). z ∷ switchesMeant l n) (e ∙ same (switchWordsMeant y) (eqb-true (y .core .0) i q)))
+      go false q r s e = rw suc-max-suc (ap (λ (z : List SwitchEntry). switchWordsMeant y ∷ z) (r (le-of-suc-le-suc s) e))
 
 ---- one move
 
@@ -71,8 +79,8 @@ switch-cores (leaves t i r) es h = touch-cores i _ (λ e. refl) es
 switch-cores (takes t i) es h = touch-cores i _ (λ e. refl) es
 
 move-stored :
-    (m : Move) → coreTouched m < 8 → (l : List Program.Switch) (n at : ℕ) (x : Program.Switch) → BlankFrom n l → at ≡ slot (coreTouched m) (cores (switchesMeant l n)) → at < length l
-    → switchMeant x ≡ entryAfter m (switchMeant (getD l at blank)) → switchesMeant (set l at x) (max n (suc at)) ≡ switchList (switchesMeant l n) (m ∷ [])
+    (m : Move) → coreTouched m < 8 → (l : List SwitchWords) (n at : ℕ) (x : SwitchWords) → BlankFrom n l → at ≡ slot (coreTouched m) (cores (switchesMeant l n)) → at < length l
+    → switchWordsMeant x ≡ entryAfter m (switchWordsMeant (getD l at noSwitch)) → switchesMeant (set l at x) (max n (suc at)) ≡ switchList (switchesMeant l n) (m ∷ [])
 unfolding switchList
 move-stored (starts t) h l n at x b p s e = absurd (omega arith)
 move-stored (leaves t i r) h l n at x b p s e =
@@ -83,7 +91,7 @@ move-stored (takes t i) h l n at x b p s e =
 ---- the arrays of the loop
 
 -- a list in the front of an array of eight, and each core's place in it; 8: nowhere yet
-pub record Listed (l : List Program.Switch) (places : List ℕ) (n : ℕ) (es : List SwitchEntry) : Type 0 where
+pub record Listed (l : List SwitchWords) (places : List ℕ) (n : ℕ) (es : List SwitchEntry) : Type 0 where
   pub fits : n ≤ 8
   pub eight : length l ≡ 8
   pub cells : length places ≡ 8
@@ -91,22 +99,22 @@ pub record Listed (l : List Program.Switch) (places : List ℕ) (n : ℕ) (es : 
   pub rest : BlankFrom n l
   pub place : (i : ℕ) → i < 8 → getD places i 0 ≡ placed i (cores es) 0
 
-pub listed-none : Listed (replicate 8 blank) (replicate 8 8) 0 []
+pub listed-none : Listed (replicate 8 noSwitch) (replicate 8 8) 0 []
 unfolding placed
 listed-none = record { fits = omega arith; eight = refl; cells = refl; meant = refl; rest = λ j h. blanks 8 j; place = λ i h. getD-replicate 8 i 8 0 h }
   where
-    blanks : (n j : ℕ) → getD (replicate n blank) j blank ≡ blank
+    blanks : (n j : ℕ) → getD (replicate n noSwitch) j noSwitch ≡ noSwitch
     blanks zero j = refl
     blanks (suc n) zero = refl
     blanks (suc n) (suc j) = blanks n j
 
-module _ (l : List Program.Switch) (places : List ℕ) (n : ℕ) (es : List SwitchEntry) (a : Listed l places n es) (m : Move) where
+module _ (l : List SwitchWords) (places : List ℕ) (n : ℕ) (es : List SwitchEntry) (a : Listed l places n es) (m : Move) where
   pub listed-same : CoreBelow 8 m → 8 ≤ coreTouched m → Listed l places n (switchList es (m ∷ []))
   listed-same b h = subst (Listed l places n) (sym (no-switch m es b h)) a
 
   module _ (h : coreTouched m < 8) (at : ℕ) (p : at ≡ min (getD places (coreTouched m) 0) n) where
     length-cores : length (cores es) ≡ n
-    length-cores = length-map es (λ (e : SwitchEntry). e .core) ∙ ap length (sym (a .meant)) ∙ length-map (take n l) switchMeant ∙ length-take-le n l (omega (arith, a .fits, a .eight))
+    length-cores = length-map es (λ (e : SwitchEntry). e .core) ∙ ap length (sym (a .meant)) ∙ length-map (take n l) switchWordsMeant ∙ length-take-le n l (omega (arith, a .fits, a .eight))
 
     at-slot : at ≡ slot (coreTouched m) (cores es)
     at-slot = omega (arith, p, a .place (coreTouched m) h, slot-placed (coreTouched m) (cores es) 0 (omega (arith, length-cores, a .fits)), length-cores)
@@ -116,7 +124,7 @@ module _ (l : List Program.Switch) (places : List ℕ) (n : ℕ) (es : List Swit
         omega (arith, at-slot, slot-within (coreTouched m) (cores es), ap length (switch-cores m es h), length-map (switchList es (m ∷ [])) (λ (e : SwitchEntry). e .core))
 
     pub listed-more :
-        at < 8 → (x : Program.Switch) → switchMeant x ≡ entryAfter m (switchMeant (getD l at blank)) → (n' : ℕ) → n' ≡ max n (at + 1)
+        at < 8 → (x : SwitchWords) → switchWordsMeant x ≡ entryAfter m (switchWordsMeant (getD l at noSwitch)) → (n' : ℕ) → n' ≡ max n (at + 1)
         → Listed (set l at x) (set places (coreTouched m) at) n' (switchList es (m ∷ []))
     listed-more r x e n' k =
         record {
@@ -124,7 +132,7 @@ module _ (l : List Program.Switch) (places : List ℕ) (n : ℕ) (es : List Swit
           eight = length-set l at x ∙ a .eight;
           cells = length-set places (coreTouched m) at ∙ a .cells;
           meant = rw (k, add-one, ← a .meant) (move-stored m h l n at x (a .rest) (rw (a .meant) at-slot) (omega (arith, a .eight)) e);
-          rest = λ j g. getD-set-other l at j x blank (before j g) ∙ a .rest j (omega arith);
+          rest = λ j g. getD-set-other l at j x noSwitch (before j g) ∙ a .rest j (omega arith);
           place = λ i g. placed-after i g (eqb i (coreTouched m)) refl;
         }
       where
@@ -145,7 +153,7 @@ unfolding movesIn
 next-move out k m h e =
     rw (e, add-one, take-suc out k 0 h, map-append decode (take k out) (getD out k 0 ∷ [])) (sym (switchList-append [] (map decode (take k out)) (decode (getD out k 0) ∷ [])))
 
-module _ (out : List ℕ) (k : ℕ) (h : k < length out) (l : List Program.Switch) (places : List ℕ) (n : ℕ) (a : Listed l places n (switchList [] (movesIn out k))) (m : Move) (e : m ≡ decode (getD out k 0)) (c : ℕ) (ec : c ≡ coreTouched m) where
+module _ (out : List ℕ) (k : ℕ) (h : k < length out) (l : List SwitchWords) (places : List ℕ) (n : ℕ) (a : Listed l places n (switchList [] (movesIn out k))) (m : Move) (e : m ≡ decode (getD out k 0)) (c : ℕ) (ec : c ≡ coreTouched m) where
   pub turn-same : 8 ≤ c → Listed l places n (switchList [] (movesIn out (k + 1)))
   turn-same g = rw (next-move out k m h e) at (listed-same l places n _ a m (rw e (word-below (getD out k 0))) (omega arith))
 
@@ -153,5 +161,5 @@ module _ (out : List ℕ) (k : ℕ) (h : k < length out) (l : List Program.Switc
     pub turn-room : at < 8
     turn-room = listed-room l places n _ a m (omega arith) at (rw ec at p) (rw (next-move out k m h e) (few out (k + 1)))
 
-    pub turn-more : (x : Program.Switch) → switchMeant x ≡ entryAfter m (switchMeant (getD l at blank)) → (n' : ℕ) → n' ≡ max n (at + 1) → Listed (set l at x) (set places c at) n' (switchList [] (movesIn out (k + 1)))
+    pub turn-more : (x : SwitchWords) → switchWordsMeant x ≡ entryAfter m (switchWordsMeant (getD l at noSwitch)) → (n' : ℕ) → n' ≡ max n (at + 1) → Listed (set l at x) (set places c at) n' (switchList [] (movesIn out (k + 1)))
     turn-more x q n' r = rw (ec, ← next-move out k m h e) (listed-more l places n _ a m (omega arith) at (rw ec at p) turn-room x q n' r)

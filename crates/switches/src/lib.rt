@@ -1,24 +1,113 @@
 // The switch list: "One entry per core touched, in order of first touch: thread out with reason, thread in."
 use model::CoreId;
+use model::LeaveReason;
 use model::OptionOut;
 use model::OptionTid;
 use model::Switch;
 use model::SwitchOut;
+use model::SwitchWords;
+use model::Tid;
 use queue::moves;
 use queue::moves::Move;
 ghost use mathlib.Core.Path.{_≡_};
+ghost use mathlib.Core.Option.{some};
 ghost use mathlib.Core.List.{[]};
-ghost use Prim.Native.Nat.{_+_, _<_, _≤_, min, max};
+ghost use Prim.Native.Nat.{ℕ, _+_, _<_, _≤_, min, max};
 ghost use lib.ListN.{length};
-ghost use Rattle.model.specs.Reading.{switchMeant, switchesMeant};
+ghost use Rattle.model.specs.Reading.{reasonMeant, optionOutMeant, outFrom, switchMeant, switchWordsMeant, switchesMeant};
 ghost use Rattle.model.specs.Accounting.{switchList};
 ghost use Rattle.queue.specs.Words.{movesIn, moveMeant};
-ghost use Rattle.switches.specs.Entries.{coreTouched, entryAfter};
+ghost use Rattle.switches.specs.Entries.{coreTouched, entryAfter, noSwitches};
 
 // The list is entries[..count].
 pub struct SwitchList {
-    pub entries: [Switch; 8],
+    pub entries: [SwitchWords; 8],
     pub count: usize,
+}
+
+// The number of a reason; 0 stands for no leave.
+fn reason_word(reason: LeaveReason) -> u16
+    ensures { λ r. ⌜ ((t : ℕ) → outFrom r t ≡ some (record { tid = t; reason = reasonMeant reason })) ⌝ }
+{
+    match reason {
+        LeaveReason::Exit => 1,
+        LeaveReason::Block => 2,
+        LeaveReason::Yield => 3,
+        LeaveReason::Quantum => 4,
+        LeaveReason::Preempt => 5,
+        LeaveReason::Forced => 6,
+    }
+}
+
+// Who leaves, by the number of the reason.
+fn out_of(reason: u16, tid: Tid) -> OptionOut
+    ensures { λ r. ⌜ optionOutMeant r ≡ outFrom reason (tid .0) ⌝ }
+{
+    if reason == 0 {
+        return OptionOut::None;
+    }
+    let reason = leave_reason(reason);
+    OptionOut::Some(SwitchOut { tid, reason })
+}
+
+fn leave_reason(word: u16) -> LeaveReason
+    requires { ⌜ 0 < word ⌝ }
+    ensures { λ r. ⌜ ((t : ℕ) → outFrom word t ≡ some (record { tid = t; reason = reasonMeant r })) ⌝ }
+{
+    if word == 1 {
+        return LeaveReason::Exit;
+    }
+    if word == 2 {
+        return LeaveReason::Block;
+    }
+    if word == 3 {
+        return LeaveReason::Yield;
+    }
+    if word == 4 {
+        return LeaveReason::Quantum;
+    }
+    if word == 5 {
+        return LeaveReason::Preempt;
+    }
+    LeaveReason::Forced
+}
+
+// An entry of a switch list, as the host reads it.
+pub fn switch_of(w: SwitchWords) -> Switch
+    ensures { λ r. ⌜ switchMeant r ≡ switchWordsMeant w ⌝ }
+{
+    let core = w.core;
+    let out = out_of(w.reason, w.left);
+    let tid = w.came;
+    if w.taken == 0 {
+        return Switch {
+            core,
+            out,
+            inn: OptionTid::None,
+        };
+    }
+    Switch {
+        core,
+        out,
+        inn: OptionTid::Some(tid),
+    }
+}
+
+// The list where no switch is due.
+pub fn no_switches() -> SwitchList
+    ensures { λ r. ⌜ r ≡ noSwitches ⌝ }
+{
+    let none = SwitchWords {
+        core: CoreId(0),
+        left: Tid(0),
+        came: Tid(0),
+        reason: 0,
+        taken: 0,
+    };
+    SwitchList {
+        entries: [none; 8],
+        count: 0,
+    }
 }
 
 // The core that a move touches; 8: none.
@@ -37,28 +126,29 @@ fn core_touched(m: Move) -> usize
 }
 
 // The entry of the core that a move touches, after the move.
-fn entry_after(e: Switch, m: Move) -> Switch
-    ensures { λ r. ⌜ switchMeant r ≡ entryAfter (moveMeant m) (switchMeant e) ⌝ }
+fn entry_after(e: SwitchWords, m: Move) -> SwitchWords
+    ensures { λ r. ⌜ switchWordsMeant r ≡ entryAfter (moveMeant m) (switchWordsMeant e) ⌝ }
 {
     match m {
         Move::Starts { tid: _ } => e,
         Move::Leaves { tid, core, reason } => {
-            let inn = e.inn;
-            Switch {
-                core: core,
-                out: OptionOut::Some(SwitchOut {
-                    tid: tid,
-                    reason: reason,
-                }),
-                inn: inn,
+            let came = e.came;
+            SwitchWords {
+                core,
+                left: tid,
+                came,
+                reason: reason_word(reason),
+                taken: e.taken,
             }
         }
         Move::Takes { tid, core } => {
-            let out = e.out;
-            Switch {
-                core: core,
-                out: out,
-                inn: OptionTid::Some(tid),
+            let left = e.left;
+            SwitchWords {
+                core,
+                left,
+                came: tid,
+                reason: e.reason,
+                taken: 1,
             }
         }
     }
@@ -91,10 +181,12 @@ pub fn switch_list(out: &[u64], n: usize) -> SwitchList
     ensures list { λ r. ⌜ switchesMeant (r .entries) (r .count) ≡ switchList [] (movesIn (now (out .entry)) n) ⌝ }
     ensures fits { λ r. ⌜ (r .count ≤ 8) × (length (r .entries) ≡ 8) ⌝ }
 {
-    let none = Switch {
+    let none = SwitchWords {
         core: CoreId(0),
-        out: OptionOut::None,
-        inn: OptionTid::None,
+        left: Tid(0),
+        came: Tid(0),
+        reason: 0,
+        taken: 0,
     };
     let mut entries = [none; 8];
     // where a core's entry stands; 8: nowhere yet

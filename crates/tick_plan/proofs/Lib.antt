@@ -2,4 +2,5 @@ pub mod Range
 pub mod Reading
 pub mod Ticking
 pub mod Parts
+pub mod OneCore
 pub mod Quiet

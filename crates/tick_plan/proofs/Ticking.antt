@@ -10,7 +10,7 @@ use lib.ListN.{length, take, drop, getD, getElem?}
 use lib.Seq.{length-take-le}
 use Rattle.settings.specs.declared.Refusal.{Refusal}
 use Rattle.settings.specs.Reading.{refusalNumber}
-use Rattle.model.specs.declared.Switch as Switches
+use Rattle.model.specs.declared.SwitchWords.{SwitchWords}
 use Rattle.model.specs.declared.CallAnswer.{CallAnswer}
 use Rattle.model.specs.declared.CallAnswer.the-variants as CallCases
 use Rattle.model.specs.declared.CoreState.the-variants as CoreStateCases
@@ -101,7 +101,7 @@ module _ (s : Sched) (ts : List ThreadInfo) (qs ps ls ws : List ℕ) (v : Valid 
 
   ---- refused: no record is charged, and there are no moves
 
-  pub pending-refused : (a : CallAnswer) (x : Refusal) (entries : List Switches.Switch) (count : ℕ) → a ≡ CallCases.Refused x → checkMeant a ≡ tickRefusal s
+  pub pending-refused : (a : CallAnswer) (x : Refusal) (entries : List SwitchWords) (count : ℕ) → a ≡ CallCases.Refused x → checkMeant a ≡ tickRefusal s
       → TickPending (switchAnswerMeant a entries count) s s 0 ts qs qs ps ls ls ws ws
   pending-refused a x entries count e h =
       record {
@@ -135,6 +135,8 @@ module _ (s : Sched) (ts : List ThreadInfo) (qs ps ls ws : List ℕ) (v : Valid 
     charge-fits =
         record {
           cores = v .sizes .cores;
+          eightTicks = v .ticks;
+          eightLanes = v .rings .eight;
           room = ticks-room (s .cores) (s .now .0) (s .ticks) (v .bounded .now) (v .bounded .ticks);
           segments = v .bounded .settings .capS′;
           words = v .sizes .lanes;

@@ -58,6 +58,8 @@ pub record TickPending (a : Answer) (s s' : Sched) (count : ℕ) (ts : List Thre
 
 pub record ChargeFits (s : Sched) (ws : List ℕ) : Type 0 where
   pub cores : s .cores ≤ 8
+  pub eightTicks : length (s .ticks) ≡ 8
+  pub eightLanes : length (s .lanes) ≡ 8
   pub room : (i : ℕ) → i < s .cores → TicksRoom (getD (s .ticks) i noTicks)
   pub segments : s .capacities .segments ≤ 4096
   pub words : laneStart (s .capacities .segments) (s .cores) ≤ length ws

@@ -7,6 +7,7 @@ use crate::Written;
 use accounts::counters::charge_ticks;
 use accounts::counters::count_takes;
 use accounts::lanes::charge_lanes;
+use accounts::lanes::charge_part;
 use accounts::log::log_moves;
 use checks::check_tick;
 use decide::tick::decide;
@@ -17,8 +18,10 @@ use quiet::is_quiet;
 use quiet::sliced_states;
 use state::Sched;
 use state::pack;
+use state::state_in;
 use state::unpack;
 use switches::switch_list;
+use ticks::charged_ticks;
 ghost use mathlib.Core.Path.{_≡_};
 ghost use mathlib.Core.Bool.{true};
 ghost use mathlib.Core.List.{List, []};
@@ -81,13 +84,38 @@ pub fn ticked(d: Decided) -> Ticked
     }
 }
 
+// The same on a board of one core: its state alone is looked at, so that no array of states is made.
+fn charge_one(s: Sched, lanes: &mut [u64]) -> Charged
+    requires { ⌜ ChargeFits s (now lanes) × (s .cores ≡ 1) ⌝ }
+    ensures { λ r. ⌜ ChargedOf s (now (lanes .entry)) (now (lanes .exit)) r ⌝ }
+{
+    let words = s.states;
+    let first = words.c0;
+    let state = state_in(first);
+    let mut ticks = s.ticks;
+    let t = ticks[0];
+    let u = charged_ticks(t, state);
+    ticks[0] = u;
+    let mut pos = s.lanes;
+    let p = pos[0];
+    let capacities = s.capacities;
+    let end = 80 + 2 * capacities.segments;
+    let tick = s.now;
+    let q = charge_part(lanes, 80, end, p, tick, state);
+    pos[0] = q;
+    Charged { ticks, lanes: pos }
+}
+
 // "Charging a tick": the cores' counters and timelines.
 pub fn charge(s: Sched, lanes: &mut [u64]) -> Charged
     requires { ⌜ ChargeFits s (now lanes) ⌝ }
     ensures { λ r. ⌜ ChargedOf s (now (lanes .entry)) (now (lanes .exit)) r ⌝ }
 {
-    let states = core_states(s);
     let n = s.cores;
+    if n == 1 {
+        return charge_one(s, lanes);
+    }
+    let states = core_states(s);
     let old = s.ticks;
     let ticks = charge_ticks(old, states, n);
     let pos = s.lanes;

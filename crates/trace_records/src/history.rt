@@ -67,7 +67,7 @@ fn put_events(out: &mut [u8], at: usize, s: Sched, log: &[u64]) -> usize
     ensures { λ r. ⌜ r ≤ length (now (out .entry)) ⌝ }
 {
     let pos = s.log;
-    let n = least(pos.len, 512);
+    let n = least(pos.len as usize, 512);
     let mut to = at;
     let mut k = 0;
     while k < n {
@@ -115,7 +115,7 @@ fn put_timeline(out: &mut [u8], at: usize, s: Sched, lanes: &[u64], i: usize) ->
     ensures { λ r. ⌜ r ≤ length (now (out .entry)) ⌝ }
 {
     let pos = s.lanes[i];
-    let n = least(pos.len, 4096);
+    let n = least(pos.len as usize, 4096);
     let core = CoreId(i as u32);
     let mut to = at;
     let mut k = 0;

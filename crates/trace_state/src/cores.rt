@@ -98,9 +98,9 @@ fn put_ticks(out: &mut [u8], at: usize, ticks: CoreTicks) -> usize
     ensures { λ r. ⌜ r ≤ length (now (out .entry)) ⌝ }
 {
     let a = put_text(out, at, b" ticks");
-    let b = put_spaced(out, a, ticks.busy);
-    let c = put_spaced(out, b, ticks.switching);
-    put_spaced(out, c, ticks.idle)
+    let b = put_spaced(out, a, ticks.busy as u64);
+    let c = put_spaced(out, b, ticks.switching as u64);
+    put_spaced(out, c, ticks.idle as u64)
 }
 
 fn put_one_core(out: &mut [u8], at: usize, s: Sched, i: usize) -> usize

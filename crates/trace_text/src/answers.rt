@@ -9,11 +9,12 @@ use libc::STDOUT_FILENO;
 use model::CallAnswer;
 use model::JoinOutcome;
 use model::OptionOut;
-use model::Switch;
+use model::SwitchWords;
 use sched::Applied;
 use sched::Outcome;
 use settings::Refusal;
 use switches::SwitchList;
+use switches::switch_of;
 ghost use Prim.Native.Nat.{_≤_};
 ghost use lib.ListN.{length};
 
@@ -53,10 +54,11 @@ fn put_out(out: &mut [u8], at: usize, left: OptionOut) -> usize
 }
 
 // An entry of the switch list, after a comma: core, thread out, reason, thread in.
-fn put_switch(out: &mut [u8], at: usize, e: Switch) -> usize
+fn put_switch(out: &mut [u8], at: usize, w: SwitchWords) -> usize
     requires { ⌜ at ≤ length (now out) ⌝ }
     ensures { λ r. ⌜ r ≤ length (now (out .entry)) ⌝ }
 {
+    let e = switch_of(w);
     let core = e.core;
     let left = e.out;
     let inn = e.inn;

@@ -26,7 +26,7 @@ mul-words : tie.Need-mul-words
 mul-words c = record { fits = omega (arith, c .before .before .before .before .before .before .pre .few (ap checkMeant (c .before .enum-told2 .given .1))) }
 
 log-first-requires : tie.Need-log-first-requires
-log-first-requires c κs = let e = ap checkMeant (c .before .before .enum-told2 .given .1) in (c .before .before .before .before .before .before .before .pre .log e, log-empty _ _ (c .before .before .before .before .before .before .before .pre .events e) (c .before .before .before .before .before .before .before .pre .log e))
+log-first-requires c κs = let e = ap checkMeant (c .before .before .enum-told2 .given .1) in (c .before .before .before .before .before .before .before .pre .log e, log-empty _ _ (c .before .before .before .before .before .before .before .pre .events e) (c .before .before .before .before .before .before .before .pre .few e) (c .before .before .before .before .before .before .before .pre .log e))
 
 returns : tie.Need-returns
 returns c = created-refused _ _ _ _ _ _ _ _ (c .enum-told .given .1)

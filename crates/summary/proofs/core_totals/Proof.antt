@@ -23,17 +23,14 @@ mul-t c = search needs
 array-copy-out-t : tie.Need-array-copy-out-t Inv-loop μ-loop
 array-copy-out-t c = search needs
 
+totals-of-requires : tie.Need-totals-of-requires Inv-loop μ-loop
+totals-of-requires c κs = search needs
+
 add-busy : tie.Need-add-busy Inv-loop μ-loop
-add-busy c = omega (arith, c .before .before .before .before .pre .0, c .before .before .before .before .pre .1 (c .before .before .before .loop .i) (c .before .before .loop-test .taken))
+add-busy c = omega (arith, c .before .before .before .before .before .pre .0, c .before .totals-of .ensures .0, c .before .before .before .before .before .pre .1 (c .before .before .before .before .loop .i) (c .before .before .before .loop-test .taken))
 
 add-all : tie.Need-add-all Inv-loop μ-loop
-add-all c = omega (arith, c .before .before .before .before .before .pre .0, c .before .before .before .before .before .pre .1 (c .before .before .before .before .loop .i) (c .before .before .before .loop-test .taken))
-
-add-all-2 : tie.Need-add-all-2 Inv-loop μ-loop
-add-all-2 c = omega (arith, c .before .before .before .before .before .before .pre .0, c .before .before .before .before .before .before .pre .1 (c .before .before .before .before .before .loop .i) (c .before .before .before .before .loop-test .taken))
-
-add-all-3 : tie.Need-add-all-3 Inv-loop μ-loop
-add-all-3 c = omega (arith, c .before .before .before .before .before .before .pre .0, c .before .before .before .before .before .before .pre .1 (c .before .before .before .before .before .loop .i) (c .before .before .before .before .loop-test .taken))
+add-all c = omega (arith, c .before .before .before .before .before .before .pre .0, c .before .before .totals-of .ensures .1, c .before .before .before .before .before .before .pre .1 (c .before .before .before .before .before .loop .i) (c .before .before .before .before .loop-test .taken))
 
 add-i : tie.Need-add-i Inv-loop μ-loop
 add-i c = search needs
@@ -48,10 +45,10 @@ loop-again c =
     let e = c .before .before .before .before .before .before .pre .1 (l .i) (c .before .before .before .before .loop-test .taken) in
     let up = add-one (l .i) in (
       search needs,
-      omega (arith, l .inv .1, busy-next a (l .i), ap (busyIn a) up),
-      omega (arith, l .inv .2, all-next a (l .i), ap (allIn a) up),
-      omega (arith, l .inv .3),
-      omega (arith, l .inv .4, e),
+      omega (arith, l .inv .1, busy-next a (l .i), c .before .before .totals-of .ensures .0, ap (busyIn a) up),
+      omega (arith, l .inv .2, all-next a (l .i), c .before .before .totals-of .ensures .1, ap (allIn a) up),
+      omega (arith, l .inv .3, c .before .before .totals-of .ensures .0, c .before .before .totals-of .ensures .1),
+      omega (arith, l .inv .4, c .before .before .totals-of .ensures .1, e),
     )
 
 returns : tie.Need-returns Inv-loop μ-loop
@@ -70,10 +67,9 @@ core-totals-spec =
     loop-holds
     mul-t
     array-copy-out-t
+    totals-of-requires
     add-busy
     add-all
-    add-all-2
-    add-all-3
     add-i
     loop-less
     loop-again

@@ -9,6 +9,9 @@ enum-told c = search needs
 enum-known-m : tie.Need-enum-known-m
 enum-known-m c = search needs
 
+reason-word-requires : tie.Need-reason-word-requires
+reason-word-requires c κs = search needs
+
 enum-known-m-2 : tie.Need-enum-known-m-2
 enum-known-m-2 c = search needs
 
@@ -16,11 +19,11 @@ returns : tie.Need-returns
 returns c = rw (c .enum-told .given .1)
 
 returns-2 : tie.Need-returns-2
-returns-2 c = rw (c .before .m .given .1)
+returns-2 c = rw (c .before .before .before .m .given .1, c .reason-word .ensures _)
 
 returns-3 : tie.Need-returns-3
-returns-3 c = rw (c .before .m2 .given .1)
+returns-3 c = rw (c .before .before .m2 .given .1)
 
 pub entry-after-spec : {M : Type 1} → statement M
 entry-after-spec =
-    tie.close (tie.spec enum-told enum-known-m enum-known-m-2 returns returns-2 returns-3)
+    tie.close (tie.spec enum-told enum-known-m reason-word-requires enum-known-m-2 returns returns-2 returns-3)

@@ -5,7 +5,6 @@ use Rattle.feed_plan.proofs.steps.headed.Statement.{statement}
 use Rattle.feed_plan.proofs.steps.headed.Tie as tie
 use Rattle.feed_plan.proofs.steps.headed.Reads as reads
 use Rattle.feed_plan.proofs.steps.headed.Lts as lts
-use Rattle.feed_plan.proofs.steps.no_switches.Reads as no-switches-reads
 
 no-switches-requires : tie.Need-no-switches-requires
 no-switches-requires c κs = search needs

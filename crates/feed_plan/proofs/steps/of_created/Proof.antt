@@ -7,7 +7,6 @@ use Rattle.feed_plan.proofs.steps.of_created.Tie as tie
 use Rattle.feed_plan.proofs.steps.of_created.Reads as reads
 use Rattle.feed_plan.proofs.steps.of_created.Lts as lts
 use Rattle.feed_plan.proofs.steps.called.Reads as called-reads
-use Rattle.feed_plan.proofs.steps.no_switches.Reads as no-switches-reads
 use Rattle.feed_plan.proofs.steps.refused.Reads as refused-reads
 
 enum-known-answer : tie.Need-enum-known-answer

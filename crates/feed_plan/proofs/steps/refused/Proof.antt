@@ -5,7 +5,6 @@ use Rattle.feed_plan.proofs.steps.refused.Statement.{statement}
 use Rattle.feed_plan.proofs.steps.refused.Tie as tie
 use Rattle.feed_plan.proofs.steps.refused.Reads as reads
 use Rattle.feed_plan.proofs.steps.refused.Lts as lts
-use Rattle.feed_plan.proofs.steps.no_switches.Reads as no-switches-reads
 use Rattle.feed_plan.proofs.steps.refused_stage.Reads as refused-stage-reads
 
 refused-stage-requires : tie.Need-refused-stage-requires

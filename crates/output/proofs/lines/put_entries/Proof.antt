@@ -41,8 +41,8 @@ mul-e c = search needs
 array-copy-out-e : tie.Need-array-copy-out-e Inv-loop μ-loop
 array-copy-out-e c = search needs
 
-put-switch-requires : tie.Need-put-switch-requires Inv-loop μ-loop
-put-switch-requires c κs =
+put-entry-requires : tie.Need-put-entry-requires Inv-loop μ-loop
+put-entry-requires c κs =
     let l = c .before .before .before .before .loop in
     let a = c .before .before .before .before .before .before .args in
     next-room (now (a .out)) (a .at) (a .tick .0) (a .entries) (l .i) (a .n) _ (l .out) (l .end) (c .before .before .if1 .left) (omega (arith, l .inv .2, c .before .before .before .loop-test .taken)) (c .before .before .before .before .before .before .pre) (l .inv .4)
@@ -57,7 +57,7 @@ loop-again : tie.Need-loop-again Inv-loop μ-loop
 loop-again c =
     let l = c .before .before .before .before .before .before .before .loop in
     let a = c .before .before .before .before .before .before .before .before .before .args in
-    let w = c .before .before .put-switch in (
+    let w = c .before .before .put-entry in (
       omega (arith, c .before .before .before .before .before .if1 .left),
       omega (arith, c .before .before .before .before .before .before .loop-test .taken),
       l .inv .2,
@@ -87,7 +87,7 @@ put-entries-spec =
     returns
     mul-e
     array-copy-out-e
-    put-switch-requires
+    put-entry-requires
     add-i
     loop-less
     loop-again

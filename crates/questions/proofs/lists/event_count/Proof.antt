@@ -8,9 +8,12 @@ use Rattle.questions.proofs.lists.event_count.Tie as tie
 use Rattle.questions.proofs.lists.event_count.Reads as reads
 use Rattle.questions.proofs.lists.event_count.Lts as lts
 
+cast-result : tie.Need-cast-result
+cast-result c = search needs
+
 returns : tie.Need-returns
 unfolding meant
-returns c = λ ts qs ps ls ws v. sym (events-count _ (c .before .args .s .log) (v .rings .events))
+returns c = λ ts qs ps ls ws v. sym (events-count _ (c .before .before .args .s .log) (v .rings .events))
 
 pub event-count-spec : {M : Type 1} → statement M
-event-count-spec = tie.close (tie.spec returns)
+event-count-spec = tie.close (tie.spec cast-result returns)

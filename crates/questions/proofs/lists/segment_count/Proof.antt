@@ -20,8 +20,11 @@ mul-pos c = search needs
 element-copy-out-pos : tie.Need-element-copy-out-pos
 element-copy-out-pos c = search needs
 
+cast-result : tie.Need-cast-result
+cast-result c = search needs
+
 returns : tie.Need-returns
-returns c = λ ts qs ps ls ws v. sym (ap (λ (l : List Segment). length l) (timeline-at (c .before .before .args .t1) ts qs ls ws _ (c .before .before .pre .1)) ∙ segments-count _ _ (v .rings .segments _ (c .before .before .pre .1)))
+returns c = λ ts qs ps ls ws v. sym (ap (λ (l : List Segment). length l) (timeline-at (c .before .before .before .args .t1) ts qs ls ws _ (c .before .before .before .pre .1)) ∙ segments-count _ _ (v .rings .segments _ (c .before .before .before .pre .1)))
 
 pub segment-count-spec : {M : Type 1} → statement M
-segment-count-spec = tie.close (tie.spec cast-i mul-pos element-copy-out-pos returns)
+segment-count-spec = tie.close (tie.spec cast-i mul-pos element-copy-out-pos cast-result returns)

@@ -4,6 +4,12 @@ use Rattle.rings.proofs.EntryLaws.{entry-read}
 use Rattle.rings.proofs.ring.entry_at.Statement.{statement}
 use Rattle.rings.proofs.ring.entry_at.Tie as tie
 
+cast-last : tie.Need-cast-last
+cast-last c = search needs
+
+cast-len : tie.Need-cast-len
+cast-len c = search needs
+
 sub-slot-before : tie.Need-sub-slot-before
 sub-slot-before c = search needs
 
@@ -35,12 +41,14 @@ shared-slice-read-t15 : tie.Need-shared-slice-read-t15
 shared-slice-read-t15 c = search needs
 
 returns : tie.Need-returns
-returns c = let a = c .before .before .before .before .args in entry-read (now (a .ring)) (a .pos) (c .before .before .before .before .pre .0) (a .k) (c .before .before .slot-before .result) (c .before .before .before .before .pre .1) (c .before .before .slot-before .ensures .0) (c .before .before .slot-before .ensures .1)
+returns c = let a = c .before .before .before .before .before .before .args in entry-read (now (a .ring)) (a .pos) (c .before .before .before .before .before .before .pre .0) (a .k) (c .before .before .slot-before .result) (c .before .before .before .before .before .before .pre .1) (c .before .before .slot-before .ensures .0) (c .before .before .slot-before .ensures .1)
 
 pub entry-at-spec : {M : Type 1} → statement M
 entry-at-spec =
     tie.close
     (tie.spec
+    cast-last
+    cast-len
     sub-slot-before
     sub-slot-before-2
     slot-before-requires

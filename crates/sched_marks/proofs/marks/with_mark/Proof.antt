@@ -1,11 +1,14 @@
 use borrow.Author.Needs.{needs}
+use borrow.Author.Tests.{eqb-true, eqb-false}
 use native.Mathlib.Omega.{arith}
 use Prim.Native.Nat.{ℕ, _≤_, _<_, _+_, _-_}
 use mathlib.Core.Path.{_≡_, refl, ap, _∙_}
-use mathlib.Core.Bool.{Bool, true}
+use mathlib.Core.Bool.{Bool, true, false, _||_}
 use mathlib.Core.List.{List}
-use mathlib.Core.Logic.{⊎-elim, _≢_}
-use lib.ListN.{length, set, length-set}
+use mathlib.Core.Logic.{_≢_}
+use lib.Dec.{eqb}
+use lib.ListN.{length, getD, set, length-set}
+use lib.Seq.{set-getD}
 use Rattle.sched_marks.proofs.marks.with_mark.Statement.{statement}
 use Rattle.sched_marks.proofs.marks.with_mark.Tie as tie
 
@@ -18,6 +21,33 @@ abbrev μ-loop : tie.MeasureT-loop
 loop-holds : tie.Need-loop-holds Inv-loop μ-loop
 loop-holds c = (search needs, search needs, λ h. absurd (omega (arith, h)), λ h. refl)
 
+or-true : (b : Bool) → (b || true) ≡ true
+or-true true = refl
+or-true false = refl
+
+or-false : (b : Bool) → (b || false) ≡ b
+or-false true = refl
+or-false false = refl
+
+-- one place is asked: it is the one to be marked, or it stays as it is
+module _ (i : ℕ) (m m₀ : List Bool) (k : ℕ) (marked : i < k → m ≡ set m₀ i true) (not-yet : k ≤ i → m ≡ m₀) where
+  at-place : k ≡ i → set m k (getD m k false || true) ≡ set m₀ i true
+  at-place e = rw (or-true (getD m k false), not-yet (omega (arith, e)), e)
+
+  elsewhere : set m k (getD m k false || false) ≡ m
+  elsewhere = rw (or-false (getD m k false)) (set-getD m k false)
+
+  after : (b : Bool) → eqb k i ≡ b → i < k + 1 → set m k (getD m k false || b) ≡ set m₀ i true
+  after true e h = at-place (eqb-true k i e)
+  after false e h = let d : k ≢ i = eqb-false k i e in elsewhere ∙ marked (omega (arith, h))
+
+  before : (b : Bool) → eqb k i ≡ b → k + 1 ≤ i → set m k (getD m k false || b) ≡ m₀
+  before true e h = absurd (omega (arith, h, eqb-true k i e))
+  before false e h = elsewhere ∙ not-yet (omega (arith, h))
+
+array-read-m : tie.Need-array-read-m Inv-loop μ-loop
+array-read-m c = search needs
+
 array-write-m : tie.Need-array-write-m Inv-loop μ-loop
 array-write-m c = search needs
 
@@ -29,20 +59,13 @@ loop-less c = search needs
 
 loop-again : tie.Need-loop-again Inv-loop μ-loop
 loop-again c =
-    let i = c .before .before .before .args .i in
-    let k = c .before .before .loop .k in
-    let v = c .before .before .loop .inv in (
+    let i = c .before .before .args .i in
+    let l = c .before .loop in (
       search needs,
-      ⊎-elim (λ w. ap length (w .1) ∙ simp length-set (v .1)) (λ w. ap length (w .1) ∙ v .1) (c .if1 .came),
-      λ h. ⊎-elim (λ w. w .1 ∙ marked i k (w .0 .taken) (v .3 (omega (arith, w .0 .taken)))) (λ w. w .1 ∙ v .2 (below i k h (w .0 .left))) (c .if1 .came),
-      λ h. ⊎-elim (λ w. absurd (omega (arith, h, w .0 .taken))) (λ w. w .1 ∙ v .3 (omega (arith, h))) (c .if1 .came),
+      simp length-set (l .inv .1),
+      after i (l .m) (c .before .before .args .marks) (l .k) (l .inv .2) (l .inv .3) _ refl,
+      before i (l .m) (c .before .before .args .marks) (l .k) (l .inv .2) (l .inv .3) _ refl,
     )
-  where
-    marked : (i k : ℕ) {m m₀ : List Bool} → k ≡ i → m ≡ m₀ → set m k true ≡ set m₀ i true
-    marked i k e f = rw (e, f)
-
-    below : (i k : ℕ) → i < k + 1 → (k ≡ i → ⊥) → i < k
-    below i k h d = let f : k ≢ i = d in omega (arith, h)
 
 returns : tie.Need-returns Inv-loop μ-loop
 returns c = c .before .loop .inv .2 (omega (arith, c .before .before .pre, c .loop-test .left))
@@ -50,4 +73,4 @@ returns c = c .before .loop .inv .2 (omega (arith, c .before .before .pre, c .lo
 pub with-mark-spec : {M : Type 1} → statement M
 with-mark-spec =
     tie.close
-    (tie.spec Inv-loop μ-loop loop-holds array-write-m add-k loop-less loop-again returns)
+    (tie.spec Inv-loop μ-loop loop-holds array-read-m array-write-m add-k loop-less loop-again returns)

@@ -11,6 +11,9 @@ Inv-loop out₀ at s log n to₀ k₀ out to k = (to ≤ length out) × (length 
 abbrev μ-loop : tie.MeasureT-loop
 μ-loop out₀ at s log n to₀ k₀ out to k = n - k
 
+cast-least : tie.Need-cast-least Inv-loop μ-loop
+cast-least c = search needs
+
 least-requires : tie.Need-least-requires Inv-loop μ-loop
 least-requires c κs = search needs
 
@@ -44,6 +47,7 @@ put-events-spec =
     (tie.spec
     Inv-loop
     μ-loop
+    cast-least
     least-requires
     loop-holds
     event-requires

@@ -17,6 +17,9 @@ mul-pos c = search needs
 element-copy-out-pos : tie.Need-element-copy-out-pos Inv-loop μ-loop
 element-copy-out-pos c = search needs
 
+cast-least : tie.Need-cast-least Inv-loop μ-loop
+cast-least c = search needs
+
 least-requires : tie.Need-least-requires Inv-loop μ-loop
 least-requires c κs = search needs
 
@@ -55,6 +58,7 @@ put-timeline-spec =
     μ-loop
     mul-pos
     element-copy-out-pos
+    cast-least
     least-requires
     cast-t16
     loop-holds
