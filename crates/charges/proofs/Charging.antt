@@ -19,7 +19,7 @@ use Rattle.model.specs.Accounting
 use Rattle.model.specs.Accounting.{addCounts, setCounts, runs, runsOn, holds, isHolder, chargeWaiting, chargeThreads}
 use Rattle.model.specs.Calls.{elem}
 use Rattle.charges.specs.declared.charge.CoreThreads.{CoreThreads}
-use Rattle.charges.specs.Charging.{nobody, holderWord, isRunning, coreThreadsOf, runsHeld, coresMeant, chargeThread, runDue, readyDue, blockedDue}
+use Rattle.charges.specs.Charging.{nobody, holderWord, isRunning, hasOthers, coreThreadsOf, runsHeld, coresMeant, chargeThread, runDue, readyDue, blockedDue}
 
 ---- truth values
 
@@ -71,12 +71,12 @@ pub filled : {A B : Type 0} (f : A → B) (xs : List A) (d : A) (out : List B) (
 filled f xs d out k y h l v e = rw (add-one, take-suc xs k d h, take-suc-set out k y l, map-append, e, v)
 
 pub all-filled : (cores : List CoreStates.CoreState) (held : List ℕ) (running : List Bool) (k : ℕ) → length cores ≤ k → length held ≤ k → length running ≤ k → take k held ≡ map holderWord (take k cores) → take k running ≡ map isRunning (take k cores)
-    → _≡_ {A = CoreThreads} (record { held = held; running = running }) (coreThreadsOf cores)
+    → (others : Bool) → others ≡ hasOthers held → _≡_ {A = CoreThreads} (record { others = others; held = held; running = running }) (coreThreadsOf cores)
 unfolding coreThreadsOf
-all-filled cores held running k a b c e f =
+all-filled cores held running k a b c e f others o =
     let p : held ≡ map holderWord cores = sym (take-all k held b) ∙ e ∙ ap (map holderWord) (take-all k cores a) in
     let q : running ≡ map isRunning cores = sym (take-all k running c) ∙ f ∙ ap (map isRunning) (take-all k cores a) in
-    rw (p, q)
+    rw (o, p, q)
 
 runsHeld-next : (i k : ℕ) (hs : List ℕ) (rs : List Bool) → k < length hs → k < length rs → runsHeld i (take (suc k) hs) (take (suc k) rs) ≡ runsHeld i (take k hs) (take k rs) || (eqb (getD hs k 0) i && getD rs k false)
 unfolding runsHeld

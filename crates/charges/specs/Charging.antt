@@ -1,8 +1,9 @@
 -- Charging one tick to one thread.
 use Prim.Native.Nat.{ℕ, _+_, _<_, _^_}
-use mathlib.Core.Bool.{Bool, true, false, cond, _&&_, _||_}
+use mathlib.Core.Bool.{Bool, true, false, cond, not, _&&_, _||_}
 use mathlib.Core.List.{List, [], _∷_, map}
 use lib.Dec.{eqb}
+use lib.ListN.{getD}
 use Rattle.model.specs.declared.CoreState as CoreStates
 use Rattle.model.specs.declared.CoreState.the-variants as coreStates
 use Rattle.model.specs.Types.{Core, ThreadState, Ready, Exited, OnCore, Blocked, ThreadRecord}
@@ -34,8 +35,15 @@ isRunning coreStates.Idle = false
 isRunning (coreStates.Switching t l) = false
 isRunning (coreStates.Running t s) = true
 
+-- whether any of eight cores but the first is held
+abbrev pub isHeldAt : List ℕ → ℕ → Bool
+isHeldAt held k = not (eqb (getD held k 0) nobody)
+
+unfoldable pub hasOthers : List ℕ → Bool
+hasOthers held = ((((isHeldAt held 1 || isHeldAt held 2) || isHeldAt held 3) || ((isHeldAt held 4 || isHeldAt held 5) || isHeldAt held 6)) || isHeldAt held 7)
+
 unfoldable pub coreThreadsOf : List CoreStates.CoreState → CoreThreads
-coreThreadsOf cores = record { held = map holderWord cores; running = map isRunning cores }
+coreThreadsOf cores = record { others = hasOthers (map holderWord cores); held = map holderWord cores; running = map isRunning cores }
 
 -- whether one of the cores that thread i holds runs
 unfoldable pub runsHeld : ℕ → (held : List ℕ) (running : List Bool) → Bool

@@ -4,14 +4,17 @@ use model::ThreadInfo;
 use model::ThreadState;
 ghost use mathlib.Core.Path.{_≡_};
 ghost use mathlib.Core.List.{List};
+ghost use Prim.Native.Nat.{_<_};
 ghost use Rattle.model.specs.declared.CoreState as CoreStates;
 ghost use Rattle.model.specs.Reading.{threadMeant, threadStateMeant};
 ghost use Rattle.model.specs.Calls.{elem};
-ghost use Rattle.charges.specs.Charging.{holderWord, isRunning, coreThreadsOf, runsHeld, runDue, readyDue, blockedDue, Chargeable, chargeThread, coresMeant};
+ghost use Rattle.charges.specs.Charging.{nobody, holderWord, isRunning, hasOthers, coreThreadsOf, runsHeld, runDue, readyDue, blockedDue, Chargeable, chargeThread, coresMeant};
 
 // The threads that hold the eight cores, running or switching in, and which of the cores run them. 4,294,967,295 stands for nobody.
 // Made once for a tick, so that a thread's core is found by comparing numbers.
+// `others` says whether any core but the first is held: on a board of one core none is, and only the first is asked.
 pub struct CoreThreads {
+    pub others: bool,
     pub held: [u32; 8],
     pub running: [bool; 8],
 }
@@ -36,6 +39,14 @@ fn is_running(s: CoreState) -> bool
     }
 }
 
+fn has_others(held: [u32; 8]) -> bool
+    ensures { λ r. ⌜ r ≡ hasOthers held ⌝ }
+{
+    let low = (held[1] != 4294967295) | (held[2] != 4294967295) | (held[3] != 4294967295);
+    let high = (held[4] != 4294967295) | (held[5] != 4294967295) | (held[6] != 4294967295);
+    low | high | (held[7] != 4294967295)
+}
+
 pub fn core_threads(cores: [CoreState; 8]) -> CoreThreads
     ensures { λ r. ⌜ r ≡ coreThreadsOf cores ⌝ }
 {
@@ -46,7 +57,12 @@ pub fn core_threads(cores: [CoreState; 8]) -> CoreThreads
         held[k] = holder_word(s);
         running[k] = is_running(s);
     }
-    CoreThreads { held, running }
+    let others = has_others(held);
+    CoreThreads {
+        others,
+        held,
+        running,
+    }
 }
 
 // No early end: the eight compares are independent of each other.
@@ -75,6 +91,34 @@ fn is_run(held: [u32; 8], running: [bool; 8], tid: u32) -> bool
         }
     }
     found
+}
+
+// Whether the thread holds a core.
+fn is_on_core(held: [u32; 8], others: bool, tid: u32) -> bool
+    requires { ⌜ tid < nobody ⌝ }
+    ensures { λ r. ⌜ (others ≡ hasOthers held → r ≡ elem tid held) ⌝ }
+{
+    if held[0] == tid {
+        return true;
+    }
+    if !others {
+        return false;
+    }
+    has_word(held, tid)
+}
+
+// Whether a core runs it.
+fn runs_on_core(held: [u32; 8], running: [bool; 8], others: bool, tid: u32) -> bool
+    requires { ⌜ tid < nobody ⌝ }
+    ensures { λ r. ⌜ (others ≡ hasOthers held → r ≡ runsHeld tid held running) ⌝ }
+{
+    if others {
+        return is_run(held, running, tid);
+    }
+    if held[0] != tid {
+        return false;
+    }
+    running[0]
 }
 
 // What a tick adds to a counter: 0 or 1, so that a record is charged by sums and nothing else of it is moved.
@@ -114,9 +158,9 @@ pub fn charged(t: ThreadInfo, i: usize, on: CoreThreads) -> ThreadInfo
     let held = on.held;
     let tid = i as u32;
     let mut u = t;
-    if has_word(held, tid) {
+    if is_on_core(held, on.others, tid) {
         let running = on.running;
-        let run = u.stats.run_ticks + run_due(is_run(held, running, tid));
+        let run = u.stats.run_ticks + run_due(runs_on_core(held, running, on.others, tid));
         u.stats.run_ticks = run;
         return u;
     }

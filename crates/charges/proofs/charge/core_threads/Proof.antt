@@ -54,8 +54,13 @@ loop-again c =
       filled isRunning (c .before .before .before .before .before .args .t1) _ (c .before .before .before .before .loop .running) (c .before .before .before .before .loop .k) _ (search needs) (search needs) (c .is-running .ensures) (v .4),
     )
 
+has-others-requires : tie.Need-has-others-requires Inv-loop μ-loop
+has-others-requires c κs = search needs
+
 returns : tie.Need-returns Inv-loop μ-loop
-returns c = all-filled (c .before .before .args .t1) (c .before .loop .held) (c .before .loop .running) (c .before .loop .k) (search needs) (search needs) (search needs) (c .before .loop .inv .3) (c .before .loop .inv .4)
+returns c =
+    let l = c .before .before .loop in
+    all-filled (c .before .before .before .args .t1) (l .held) (l .running) (l .k) (search needs) (search needs) (search needs) (l .inv .3) (l .inv .4) (c .has-others .result) (c .has-others .ensures)
 
 pub core-threads-spec : {M : Type 1} → statement M
 core-threads-spec =
@@ -74,4 +79,5 @@ core-threads-spec =
     add-k
     loop-less
     loop-again
+    has-others-requires
     returns)
