@@ -6,31 +6,13 @@ use mathlib.Core.List.{List, [], _∷_, map}
 use native.Mathlib.Omega.{arith}
 use lib.Dec.{eqb}
 use lib.ListN.{length, getD}
-use borrow.Author.Tests.{eq-eqb, ne-eqb, eqb-true}
+use borrow.Author.Tests.{eq-eqb, ne-eqb, eqb-true, not-false}
 use Rattle.model.specs.declared.CoreState as CoreStates
 use Rattle.model.specs.Calls.{elem}
+use Rattle.model.proofs.PhaseLaws.{or-false-l, or-false-r, or-true-l}
 use Rattle.charges.specs.declared.charge.CoreThreads.{CoreThreads}
 use Rattle.charges.specs.Charging.{nobody, holderWord, hasOthers, coreThreadsOf, runsHeld}
-
-or-none : (b : Bool) → b || false ≡ b
-or-none true = refl
-or-none false = refl
-
-or-true : (b : Bool) → true || b ≡ true
-or-true b = refl
-
-left-false : (a b : Bool) → a || b ≡ false → a ≡ false
-left-false true b e = e
-left-false false b e = refl
-
-right-false : (a b : Bool) → a || b ≡ false → b ≡ false
-right-false true true e = e
-right-false true false e = refl
-right-false false b e = e
-
-not-false : (b : Bool) → not b ≡ false → b ≡ true
-not-false true e = refl
-not-false false e = sym e
+use Rattle.charges.proofs.Charging.{or-none}
 
 module _ (t : ℕ) (k : t < nobody) where
   nobody-word : (w : ℕ) → not (eqb w nobody) ≡ false → eqb w t ≡ false
@@ -47,12 +29,12 @@ module _ (t : ℕ) (k : t < nobody) where
   only-first (a ∷ b ∷ c ∷ d ∷ e ∷ f ∷ []) l o = absurd (omega (arith, l))
   only-first (a ∷ b ∷ c ∷ d ∷ e ∷ f ∷ g ∷ []) l o = absurd (omega (arith, l))
   only-first (a ∷ b ∷ c ∷ d ∷ e ∷ f ∷ g ∷ h ∷ []) l o =
-      let p : (((not (eqb b nobody) || not (eqb c nobody)) || not (eqb d nobody)) || ((not (eqb e nobody) || not (eqb f nobody)) || not (eqb g nobody))) ≡ false = left-false (((not (eqb b nobody) || not (eqb c nobody)) || not (eqb d nobody)) || ((not (eqb e nobody) || not (eqb f nobody)) || not (eqb g nobody))) (not (eqb h nobody)) o in
-      let lo : ((not (eqb b nobody) || not (eqb c nobody)) || not (eqb d nobody)) ≡ false = left-false ((not (eqb b nobody) || not (eqb c nobody)) || not (eqb d nobody)) ((not (eqb e nobody) || not (eqb f nobody)) || not (eqb g nobody)) p in
-      let hi : ((not (eqb e nobody) || not (eqb f nobody)) || not (eqb g nobody)) ≡ false = right-false ((not (eqb b nobody) || not (eqb c nobody)) || not (eqb d nobody)) ((not (eqb e nobody) || not (eqb f nobody)) || not (eqb g nobody)) p in
-      let bc : (not (eqb b nobody) || not (eqb c nobody)) ≡ false = left-false (not (eqb b nobody) || not (eqb c nobody)) (not (eqb d nobody)) lo in
-      let ef : (not (eqb e nobody) || not (eqb f nobody)) ≡ false = left-false (not (eqb e nobody) || not (eqb f nobody)) (not (eqb g nobody)) hi in
-      rw (nobody-word b (left-false (not (eqb b nobody)) (not (eqb c nobody)) bc), nobody-word c (right-false (not (eqb b nobody)) (not (eqb c nobody)) bc), nobody-word d (right-false (not (eqb b nobody) || not (eqb c nobody)) (not (eqb d nobody)) lo), nobody-word e (left-false (not (eqb e nobody)) (not (eqb f nobody)) ef), nobody-word f (right-false (not (eqb e nobody)) (not (eqb f nobody)) ef), nobody-word g (right-false (not (eqb e nobody) || not (eqb f nobody)) (not (eqb g nobody)) hi), nobody-word h (right-false (((not (eqb b nobody) || not (eqb c nobody)) || not (eqb d nobody)) || ((not (eqb e nobody) || not (eqb f nobody)) || not (eqb g nobody))) (not (eqb h nobody)) o)) (or-none (eqb a t))
+      let p : (((not (eqb b nobody) || not (eqb c nobody)) || not (eqb d nobody)) || ((not (eqb e nobody) || not (eqb f nobody)) || not (eqb g nobody))) ≡ false = or-false-l (((not (eqb b nobody) || not (eqb c nobody)) || not (eqb d nobody)) || ((not (eqb e nobody) || not (eqb f nobody)) || not (eqb g nobody))) (not (eqb h nobody)) o in
+      let lo : ((not (eqb b nobody) || not (eqb c nobody)) || not (eqb d nobody)) ≡ false = or-false-l ((not (eqb b nobody) || not (eqb c nobody)) || not (eqb d nobody)) ((not (eqb e nobody) || not (eqb f nobody)) || not (eqb g nobody)) p in
+      let hi : ((not (eqb e nobody) || not (eqb f nobody)) || not (eqb g nobody)) ≡ false = or-false-r ((not (eqb b nobody) || not (eqb c nobody)) || not (eqb d nobody)) ((not (eqb e nobody) || not (eqb f nobody)) || not (eqb g nobody)) p in
+      let bc : (not (eqb b nobody) || not (eqb c nobody)) ≡ false = or-false-l (not (eqb b nobody) || not (eqb c nobody)) (not (eqb d nobody)) lo in
+      let ef : (not (eqb e nobody) || not (eqb f nobody)) ≡ false = or-false-l (not (eqb e nobody) || not (eqb f nobody)) (not (eqb g nobody)) hi in
+      rw (nobody-word b (or-false-l (not (eqb b nobody)) (not (eqb c nobody)) bc), nobody-word c (or-false-r (not (eqb b nobody)) (not (eqb c nobody)) bc), nobody-word d (or-false-r (not (eqb b nobody) || not (eqb c nobody)) (not (eqb d nobody)) lo), nobody-word e (or-false-l (not (eqb e nobody)) (not (eqb f nobody)) ef), nobody-word f (or-false-r (not (eqb e nobody)) (not (eqb f nobody)) ef), nobody-word g (or-false-r (not (eqb e nobody) || not (eqb f nobody)) (not (eqb g nobody)) hi), nobody-word h (or-false-r (((not (eqb b nobody) || not (eqb c nobody)) || not (eqb d nobody)) || ((not (eqb e nobody) || not (eqb f nobody)) || not (eqb g nobody))) (not (eqb h nobody)) o)) (or-none (eqb a t))
   only-first (a ∷ b ∷ c ∷ d ∷ e ∷ f ∷ g ∷ h ∷ i ∷ r) l o = absurd (omega (arith, l))
 
   pub only-first-runs : (held : List ℕ) (running : List Bool) → length held ≡ 8 → length running ≡ 8 → hasOthers held ≡ false → runsHeld t held running ≡ (eqb (getD held 0 0) t && getD running 0 false)
@@ -74,12 +56,12 @@ module _ (t : ℕ) (k : t < nobody) where
   only-first-runs (a ∷ b ∷ c ∷ d ∷ e ∷ f ∷ g ∷ h ∷ []) (a′ ∷ b′ ∷ c′ ∷ d′ ∷ e′ ∷ f′ ∷ []) l r o = absurd (omega (arith, r))
   only-first-runs (a ∷ b ∷ c ∷ d ∷ e ∷ f ∷ g ∷ h ∷ []) (a′ ∷ b′ ∷ c′ ∷ d′ ∷ e′ ∷ f′ ∷ g′ ∷ []) l r o = absurd (omega (arith, r))
   only-first-runs (a ∷ b ∷ c ∷ d ∷ e ∷ f ∷ g ∷ h ∷ []) (a′ ∷ b′ ∷ c′ ∷ d′ ∷ e′ ∷ f′ ∷ g′ ∷ h′ ∷ []) l r o =
-      let p : (((not (eqb b nobody) || not (eqb c nobody)) || not (eqb d nobody)) || ((not (eqb e nobody) || not (eqb f nobody)) || not (eqb g nobody))) ≡ false = left-false (((not (eqb b nobody) || not (eqb c nobody)) || not (eqb d nobody)) || ((not (eqb e nobody) || not (eqb f nobody)) || not (eqb g nobody))) (not (eqb h nobody)) o in
-      let lo : ((not (eqb b nobody) || not (eqb c nobody)) || not (eqb d nobody)) ≡ false = left-false ((not (eqb b nobody) || not (eqb c nobody)) || not (eqb d nobody)) ((not (eqb e nobody) || not (eqb f nobody)) || not (eqb g nobody)) p in
-      let hi : ((not (eqb e nobody) || not (eqb f nobody)) || not (eqb g nobody)) ≡ false = right-false ((not (eqb b nobody) || not (eqb c nobody)) || not (eqb d nobody)) ((not (eqb e nobody) || not (eqb f nobody)) || not (eqb g nobody)) p in
-      let bc : (not (eqb b nobody) || not (eqb c nobody)) ≡ false = left-false (not (eqb b nobody) || not (eqb c nobody)) (not (eqb d nobody)) lo in
-      let ef : (not (eqb e nobody) || not (eqb f nobody)) ≡ false = left-false (not (eqb e nobody) || not (eqb f nobody)) (not (eqb g nobody)) hi in
-      rw (nobody-word b (left-false (not (eqb b nobody)) (not (eqb c nobody)) bc), nobody-word c (right-false (not (eqb b nobody)) (not (eqb c nobody)) bc), nobody-word d (right-false (not (eqb b nobody) || not (eqb c nobody)) (not (eqb d nobody)) lo), nobody-word e (left-false (not (eqb e nobody)) (not (eqb f nobody)) ef), nobody-word f (right-false (not (eqb e nobody)) (not (eqb f nobody)) ef), nobody-word g (right-false (not (eqb e nobody) || not (eqb f nobody)) (not (eqb g nobody)) hi), nobody-word h (right-false (((not (eqb b nobody) || not (eqb c nobody)) || not (eqb d nobody)) || ((not (eqb e nobody) || not (eqb f nobody)) || not (eqb g nobody))) (not (eqb h nobody)) o)) (or-none (eqb a t && a′))
+      let p : (((not (eqb b nobody) || not (eqb c nobody)) || not (eqb d nobody)) || ((not (eqb e nobody) || not (eqb f nobody)) || not (eqb g nobody))) ≡ false = or-false-l (((not (eqb b nobody) || not (eqb c nobody)) || not (eqb d nobody)) || ((not (eqb e nobody) || not (eqb f nobody)) || not (eqb g nobody))) (not (eqb h nobody)) o in
+      let lo : ((not (eqb b nobody) || not (eqb c nobody)) || not (eqb d nobody)) ≡ false = or-false-l ((not (eqb b nobody) || not (eqb c nobody)) || not (eqb d nobody)) ((not (eqb e nobody) || not (eqb f nobody)) || not (eqb g nobody)) p in
+      let hi : ((not (eqb e nobody) || not (eqb f nobody)) || not (eqb g nobody)) ≡ false = or-false-r ((not (eqb b nobody) || not (eqb c nobody)) || not (eqb d nobody)) ((not (eqb e nobody) || not (eqb f nobody)) || not (eqb g nobody)) p in
+      let bc : (not (eqb b nobody) || not (eqb c nobody)) ≡ false = or-false-l (not (eqb b nobody) || not (eqb c nobody)) (not (eqb d nobody)) lo in
+      let ef : (not (eqb e nobody) || not (eqb f nobody)) ≡ false = or-false-l (not (eqb e nobody) || not (eqb f nobody)) (not (eqb g nobody)) hi in
+      rw (nobody-word b (or-false-l (not (eqb b nobody)) (not (eqb c nobody)) bc), nobody-word c (or-false-r (not (eqb b nobody)) (not (eqb c nobody)) bc), nobody-word d (or-false-r (not (eqb b nobody) || not (eqb c nobody)) (not (eqb d nobody)) lo), nobody-word e (or-false-l (not (eqb e nobody)) (not (eqb f nobody)) ef), nobody-word f (or-false-r (not (eqb e nobody)) (not (eqb f nobody)) ef), nobody-word g (or-false-r (not (eqb e nobody) || not (eqb f nobody)) (not (eqb g nobody)) hi), nobody-word h (or-false-r (((not (eqb b nobody) || not (eqb c nobody)) || not (eqb d nobody)) || ((not (eqb e nobody) || not (eqb f nobody)) || not (eqb g nobody))) (not (eqb h nobody)) o)) (or-none (eqb a t && a′))
   only-first-runs (a ∷ b ∷ c ∷ d ∷ e ∷ f ∷ g ∷ h ∷ []) (a′ ∷ b′ ∷ c′ ∷ d′ ∷ e′ ∷ f′ ∷ g′ ∷ h′ ∷ i′ ∷ rs) l r o = absurd (omega (arith, r))
   only-first-runs (a ∷ b ∷ c ∷ d ∷ e ∷ f ∷ g ∷ h ∷ i ∷ hs) rs l r o = absurd (omega (arith, l))
 
@@ -87,7 +69,7 @@ module _ (t : ℕ) (k : t < nobody) where
 pub first-holds : (t : ℕ) (held : List ℕ) → length held ≡ 8 → getD held 0 0 ≡ t → elem t held ≡ true
 unfolding elem
 first-holds t [] l e = absurd (omega (arith, l))
-first-holds t (a ∷ hs) l e = rw (eq-eqb a t e) (or-true (elem t hs))
+first-holds t (a ∷ hs) l e = or-true-l (eqb a t) (elem t hs) (eq-eqb a t e)
 
 pub others-is : (on : CoreThreads) (cores : List CoreStates.CoreState) → on ≡ coreThreadsOf cores → on .others ≡ hasOthers (on .held)
 unfolding coreThreadsOf

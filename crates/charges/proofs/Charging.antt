@@ -26,7 +26,7 @@ use Rattle.charges.specs.Charging.{nobody, holderWord, isRunning, hasOth
 no : false ≡ true → ⊥
 no e = let z : _≡_ {A = ℕ} 0 1 = cc in omega arith
 
-or-none : (b : Bool) → b || false ≡ b
+pub or-none : (b : Bool) → b || false ≡ b
 or-none true = refl
 or-none false = refl
 

@@ -9,6 +9,7 @@ use mathlib.Core.Logic.{_≢_}
 use lib.Dec.{eqb}
 use lib.ListN.{length, getD, set, length-set}
 use lib.Seq.{set-getD}
+use Rattle.model.proofs.PhaseLaws.{or-true-r}
 use Rattle.sched_marks.proofs.marks.with_mark.Statement.{statement}
 use Rattle.sched_marks.proofs.marks.with_mark.Tie as tie
 
@@ -21,10 +22,6 @@ abbrev μ-loop : tie.MeasureT-loop
 loop-holds : tie.Need-loop-holds Inv-loop μ-loop
 loop-holds c = (search needs, search needs, λ h. absurd (omega (arith, h)), λ h. refl)
 
-or-true : (b : Bool) → (b || true) ≡ true
-or-true true = refl
-or-true false = refl
-
 or-false : (b : Bool) → (b || false) ≡ b
 or-false true = refl
 or-false false = refl
@@ -32,7 +29,7 @@ or-false false = refl
 -- one place is asked: it is the one to be marked, or it stays as it is
 module _ (i : ℕ) (m m₀ : List Bool) (k : ℕ) (marked : i < k → m ≡ set m₀ i true) (not-yet : k ≤ i → m ≡ m₀) where
   at-place : k ≡ i → set m k (getD m k false || true) ≡ set m₀ i true
-  at-place e = rw (or-true (getD m k false), not-yet (omega (arith, e)), e)
+  at-place e = rw (or-true-r (getD m k false) true refl, not-yet (omega (arith, e)), e)
 
   elsewhere : set m k (getD m k false || false) ≡ m
   elsewhere = rw (or-false (getD m k false)) (set-getD m k false)
