@@ -1,3 +1,4 @@
 pub mod Whole
 pub mod Forcing
 pub mod Asked
+pub mod OneCore

@@ -13,6 +13,7 @@ use Rattle.settings.specs.Reading.{policyMeant}
 use Rattle.model.specs.Types.{Core, Idle}
 use Rattle.model.specs.Phases.{isPreemptive, decide}
 use Rattle.model.specs.Calls.{slicedAll}
+use Rattle.model.specs.Reading.{coreStateMeant}
 use Rattle.model.proofs.PhaseLaws.{and-l, and-r, other, or-false-l, or-false-r, not-both}
 use Rattle.model.specs.declared.CoreState.the-variants as CoreStateCases
 use Rattle.model.proofs.Bounded.{AllL, all-snoc}
@@ -65,6 +66,13 @@ module _ (s : Sched) (rr : Bool) (q : ℕ) where
   pub calm-pass : (j : ℕ) (r : Bool) → r ≡ testAt j → not r ≡ false → testAt j ≡ true
   calm-pass j r e h = sym e ∙ not-false r h
 
+  calm-all : ((j : ℕ) → j < s .cores → testAt j ≡ true) → true ≡ eachBelow (calmAt s rr q) (s .cores)
+  calm-all f = sym (each-true (calmAt s rr q) (s .cores) (λ j k. other _ _ (test-calm j ∙ f j k) (lt-leb (s .cores) j k)))
+
+  -- there is one core, and it passes
+  pub calm-one : s .cores ≡ 1 → testAt 0 ≡ true → true ≡ eachBelow (calmAt s rr q) (s .cores)
+  calm-one h t = calm-all (λ j k. below-more (λ i. testAt i ≡ true) 0 (below-none (λ i. testAt i ≡ true)) t j (omega (arith, h, k)))
+
   -- all but the last pass
   pub calm-last : s .cores ≤ 8 → ((j : ℕ) → j < 7 → testAt j ≡ true) → (r : Bool) → r ≡ testAt 7 → r ≡ eachBelow (calmAt s rr q) (s .cores)
   calm-last l f r e = go r refl
@@ -73,7 +81,7 @@ module _ (s : Sched) (rr : Bool) (q : ℕ) where
       go false h = calm-not 7 r e h
       go true h =
           let all : (j : ℕ) → j < 8 → testAt j ≡ true = below-more (λ j. testAt j ≡ true) 7 f (sym e ∙ h) in
-          sym (each-true (calmAt s rr q) (s .cores) (λ j k. other _ _ (test-calm j ∙ all j (omega arith)) (lt-leb (s .cores) j k)))
+          calm-all (λ j k. all j (omega arith))
 
 module _ (s : Sched) (p : Bool) (ep : p ≡ isPriority (policyMeant (s .config .policy))) where
   pub quiet-priority : p ≡ true → false ≡ isQuiet s
@@ -108,6 +116,13 @@ states-sliced e e' n l f g j = go (leb 8 j) refl
     go true h =
         let k : 8 ≤ j = leb-true 8 j h in
         rw (List·getD-eq-default (statesOf e') CoreStateCases.Idle k, List·getD-eq-default (statesOf e) CoreStateCases.Idle k) (kept n j Idle (omega arith))
+
+-- of one core, the words of the others stay
+pub states-one :
+    (e : Eight) (w : CoreWords) (n : ℕ) → n ≡ 1 → coreStateMeant (stateIn w) ≡ slicedBelow n 0 (stateAt e 0)
+    → (j : ℕ) → stateAt (record { c0 = w; c1 = e .c1; c2 = e .c2; c3 = e .c3; c4 = e .c4; c5 = e .c5; c6 = e .c6; c7 = e .c7 }) j ≡ slicedBelow n j (stateAt e j)
+states-one e w n h f zero = f
+states-one e w n h f (suc j) = kept n (suc j) _ (omega (arith, h))
 
 -- what a slice's growth asks of core j's words
 module _ (s : Sched) (h : isQuiet s ≡ true) (r : Roomy s) where

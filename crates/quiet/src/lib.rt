@@ -1,5 +1,6 @@
 // A tick end that switches nothing: told from the state, and what it leaves of the core states. Both work on the words between calls, so that such a tick neither
 // runs the phases nor packs the core states anew.
+// With one core the seven others are left out, not tested one by one.
 use settings::SchedPolicy;
 use state::CoreWords;
 use state::Eight;
@@ -79,6 +80,9 @@ fn are_calm(s: Sched, rr: bool, q: u32) -> bool
     if !is_calm(n, 0, w.c0, e, b, y, p, rr, q) {
         return false;
     }
+    if n == 1 {
+        return true;
+    }
     if !is_calm(n, 1, w.c1, e, b, y, p, rr, q) {
         return false;
     }
@@ -136,6 +140,11 @@ pub fn sliced_states(s: Sched) -> Eight
     let n = s.cores;
     let w = s.states;
     let c0 = sliced_words(w.c0, n, 0);
+    if n == 1 {
+        let mut r = w;
+        r.c0 = c0;
+        return r;
+    }
     let c1 = sliced_words(w.c1, n, 1);
     let c2 = sliced_words(w.c2, n, 2);
     let c3 = sliced_words(w.c3, n, 3);

@@ -1,6 +1,6 @@
 -- What the program keeps from line to line: report and text are the definition's for the lines taken.
-use Prim.Native.Nat.{ℕ, _+_, _-_, _≤_, _<_}
-use mathlib.Core.Path.{_≡_, refl, sym, ap, subst, _∙_}
+use Prim.Native.Nat.{ℕ, suc, _+_, _-_, _≤_, _<_}
+use mathlib.Core.Path.{_≡_, refl, sym, ap, ap₂, subst, _∙_}
 use mathlib.Core.Bool.{Bool, true, false, cond, _&&_}
 use mathlib.Core.List.{List, [], _∷_, _++_, append-assoc, append-nil}
 use native.Mathlib.Omega.{arith}
@@ -14,6 +14,8 @@ use Rattle.text.specs.Buffers.{Put}
 use Rattle.script.specs.Report as Definition
 use Rattle.script.specs.Report.{heads, calls, ended, over, feed, feeds, finish, whole, start}
 use Rattle.script.proofs.Streams.{feeds-report, feeds-out}
+use Rattle.feed_plan.specs.declared.Stage.{Stage}
+use Rattle.feed_plan.specs.declared.Stage.the-variants as StageCases
 use Rattle.feed_plan.specs.declared.Report.{Report}
 use Rattle.feed_plan.specs.declared.Line.{Line}
 use Rattle.feed_plan.specs.declared.Next.{Next}
@@ -21,9 +23,11 @@ use Rattle.feed_plan.specs.Meant.{counting, reportMeant, ReportValid}
 use Rattle.feed_plan.specs.Steps.{fedOf, nextText}
 use Rattle.feed_plan.specs.Feeding.{Starts, LineDone}
 use Rattle.report_io.specs.declared.Upcoming.{Upcoming}
+use Rattle.report_io.specs.Marks.{retiredLines, noMarks, markedBy, markedReport}
 use Rattle.report_io.specs.Blocks.{lastTurn, beginning, firstOf, turnAhead, NextLine, pendingText, heldBack, takesLines, Passed}
 use Rattle.sched.proofs.Memory.{Lists}
 use Rattle.report.specs.Running.{SoFar, Runnable, Finished}
+use Rattle.report.proofs.Marking.{lines-cut, counting-twice, Behind, behind}
 use Rattle.report.proofs.Pieces.{first-alone, takes, takes-meant, first-ended}
 
 ---- the count that is forgotten after the end
@@ -49,6 +53,21 @@ counting-finish n (calls s) = refl
 counting-finish n (ended s) = refl
 counting-finish n over = refl
 
+counting-feeds : (ls : List (List ℕ)) (d : Definition.Report) → counting (feeds (counting d) ls .report) ≡ counting (feeds d ls .report)
+unfolding feeds
+counting-feeds [] d = sym (counting-twice d)
+counting-feeds (l ∷ ls) d =
+    sym (counting-feeds ls (feed (counting d) l .report)) ∙
+    ap (λ (e : Definition.Report). counting (feeds e ls .report)) (counting-feed (d .lines) (d .stage) l) ∙
+    counting-feeds ls (feed d l .report)
+
+counting-outs : (ls : List (List ℕ)) (d : Definition.Report) → feeds (counting d) ls .out ≡ feeds d ls .out
+unfolding feeds
+counting-outs [] d = refl
+counting-outs (l ∷ ls) d =
+    ap₂ (λ (t t′ : List ℕ). t ++ t′) (counting-out (d .lines) (d .stage) l)
+    (sym (counting-outs ls (feed (counting d) l .report)) ∙ ap (λ (e : Definition.Report). feeds e ls .out) (counting-feed (d .lines) (d .stage) l) ∙ counting-outs ls (feed d l .report))
+
 ---- one line more
 
 fed-one : (d : Definition.Report) (l : List ℕ) → feeds d (l ∷ []) .report ≡ feed d l .report
@@ -61,7 +80,7 @@ out-one d l = append-nil (feed d l .out)
 
 module _ (r : Report) (u : Upcoming) (m : Lists) (bs : List ℕ) (s : SoFar r u (m .ts) bs (m .qs) (m .ls) (m .ws)) (less : u .place .turn < lastTurn) (ahead : List ℕ) (some : 0 < length ahead) (c : Line)
     (says : feed (reportMeant r (m .ts) (m .qs) (m .ls) (m .ws)) (firstOf (cut ahead)) ≡ fedOf (reportMeant r (m .ts) (m .qs) (m .ls) (m .ws)) c)
-    (x : Next) (z : Lists) (done : LineDone r c (m .ts) (z .ts) (m .qs) (z .qs) (m .ps) (z .ps) (m .ls) (z .ls) (m .ws) (z .ws) x) where
+    (x : Next) (z : Lists) (done : LineDone r c (m .ts) (z .ts) (m .qs) (z .qs) (m .ps) (z .ps) (m .ls) (z .ls) (m .ws) (z .ws) x) (valid : ReportValid (x .report) (z .ts) (z .qs) (z .ps) (z .ls) (z .ws)) where
   abbrev piece : List ℕ
   piece = firstOf (cut ahead)
 
@@ -112,32 +131,82 @@ module _ (r : Report) (u : Upcoming) (m : Lists) (bs : List ℕ) (s : SoFar r u 
   follows : (v : Upcoming) (bs′ : List ℕ) → Passed u x bs bs′ v → v .place .turn < lastTurn → takesLines (x .report .stage) ≡ true
   follows v bs′ p h = go (v .place .«all_written») (takesLines (x .report .stage)) (p .turn)
     where
-      go : (a b : Bool) → v .place .turn ≡ cond (a && b) (turnAhead (p .awaits .ahead) (u .place .turn + 1)) lastTurn → b ≡ true
+      go : (a b : Bool) → v .place .turn ≡ cond (a && b) (turnAhead (p .awaits .ahead) (u .place .turn + 1 + length (p .lines))) lastTurn → b ≡ true
       go true true e = refl
       go true false e = absurd (omega (arith, e, h))
       go false b e = absurd (omega (arith, e, h))
 
-  pub kept : (v : Upcoming) (bs′ : List ℕ) → Passed u x bs bs′ v → SoFar (x .report) v (z .ts) bs′ (z .qs) (z .ls) (z .ws)
-  unfolding heldBack
-  kept v bs′ p = go (leb (length t) 65_248) refl (p .text)
-    where
-      t : List ℕ
-      t = pendingText (u .place) bs ++ nextText x
+  -- the lines `retired=` that were taken with it
+  module _ (v : Upcoming) (bs′ : List ℕ) (p : Passed u x bs bs′ v) where
+    abbrev more-lines : List ℕ
+    more-lines = retiredLines (p .lines)
 
-      go : (b : Bool) → leb (length t) 65_248 ≡ b → pendingText (v .place) bs′ ≡ cond b t [] → SoFar (x .report) v (z .ts) bs′ (z .qs) (z .ls) (z .ws)
-      go true e f = record { script = taken; report = report-next; sent = s .sent; text = ap (λ (y : List ℕ). s .sent ++ y) f ∙ all-text; much = s .much; ended = λ h. still-ended (follows v bs′ p h) }
-      go false e f = record {
-        script = taken;
-        report = report-next;
-        sent = s .sent ++ t;
-        text = ap (λ (y : List ℕ). (s .sent ++ t) ++ y) f ∙ append-nil (s .sent ++ t) ∙ all-text;
-        much = λ h. omega (arith, leb-false (length t) 65_248 e, length-append (s .sent) t);
-        ended = λ h. still-ended (follows v bs′ p h);
-      }
+    abbrev script′ : List ℕ
+    script′ = taken ++ more-lines
+
+    -- what stands behind the lines
+    abbrev behind-all : Behind (z .ts) (z .qs) (z .ps) (z .ls) (z .ws) (x .report) (p .lines) (v .marked)
+    behind-all = behind (z .ts) (z .qs) (z .ps) (z .ls) (z .ws) (x .report) valid (p .lines) (v .marked) (p .marked)
+
+    takes-calls : (g : Stage) → g ≡ StageCases.Calls → takesLines g ≡ true
+    unfolding takesLines
+    takes-calls g e = ap takesLines e
+
+    pieces : cut script′ ≡ cut taken ++ cut more-lines
+    unfolding retiredLines cut
+    pieces = go (p .lines) refl
+      where
+        go : (cs : List ℕ) → p .lines ≡ cs → cut (taken ++ retiredLines (p .lines)) ≡ cut taken ++ cut (retiredLines (p .lines))
+        go [] e =
+            ap (λ (l : List ℕ). cut (taken ++ retiredLines l)) e ∙ ap cut (append-nil taken) ∙ sym (append-nil (cut taken)) ∙ sym (ap (λ (l : List ℕ). cut taken ++ cut (retiredLines l)) e)
+        go (y ∷ cs) e = still-ended (takes-calls (x .report .stage) (p .marked .calls (let n : length (p .lines) ≡ suc (length cs) = ap length e in omega arith) .0)) (retiredLines (p .lines))
+
+    report-marked : reportMeant (markedReport (x .report) (v .marked)) (z .ts) (z .qs) (z .ls) (z .ws) ≡ counting (feeds start (cut script′) .report)
+    report-marked =
+        behind-all .report ∙
+        ap (λ (y : Definition.Report). counting (feeds y (cut more-lines) .report)) report-next ∙
+        counting-feeds (cut more-lines) (feeds start (cut taken) .report) ∙
+        ap counting (sym (feeds-report start (cut taken) (cut more-lines))) ∙
+        ap (λ (ls : List (List ℕ)). counting (feeds start ls .report)) (sym pieces)
+
+    out-marked : feeds start (cut taken) .out ≡ feeds start (cut script′) .out
+    out-marked =
+        sym (append-nil (feeds start (cut taken) .out)) ∙
+        ap (λ (t : List ℕ). feeds start (cut taken) .out ++ t) (sym (sym (counting-outs (cut more-lines) (feeds start (cut taken) .report)) ∙ ap (λ (y : Definition.Report). feeds y (cut more-lines) .out) (sym report-next) ∙ behind-all .out)) ∙
+        sym (feeds-out start (cut taken) (cut more-lines)) ∙
+        ap (λ (ls : List (List ℕ)). feeds start ls .out) (sym pieces)
+
+    ended-marked : v .place .turn < lastTurn → (l : List ℕ) → cut (script′ ++ l) ≡ cut script′ ++ cut l
+    ended-marked h l =
+        ap cut (append-assoc taken more-lines l) ∙
+        still-ended (follows v bs′ p h) (more-lines ++ l) ∙
+        ap (λ (ls : List (List ℕ)). cut taken ++ ls) (lines-cut (x .report .sched .cores) (p .lines) l (p .marked .each)) ∙
+        sym (ap (λ (ls : List (List ℕ)). ls ++ cut l) pieces ∙ append-assoc (cut taken) (cut more-lines) (cut l))
+
+    pub kept : SoFar (markedReport (x .report) (v .marked)) v (z .ts) bs′ (z .qs) (z .ls) (z .ws)
+    unfolding heldBack
+    kept = go (leb (length t) 65_248) refl (p .text)
+      where
+        t : List ℕ
+        t = pendingText (u .place) bs ++ nextText x
+
+        go : (b : Bool) → leb (length t) 65_248 ≡ b → pendingText (v .place) bs′ ≡ cond b t [] → SoFar (markedReport (x .report) (v .marked)) v (z .ts) bs′ (z .qs) (z .ls) (z .ws)
+        go true e f = record { script = script′; report = report-marked; sent = s .sent; text = ap (λ (y : List ℕ). s .sent ++ y) f ∙ all-text ∙ out-marked; much = s .much; ended = ended-marked }
+        go false e f = record {
+          script = script′;
+          report = report-marked;
+          sent = s .sent ++ t;
+          text = ap (λ (y : List ℕ). (s .sent ++ t) ++ y) f ∙ append-nil (s .sent ++ t) ∙ all-text ∙ out-marked;
+          much = λ h. omega (arith, leb-false (length t) 65_248 e, length-append (s .sent) t);
+          ended = ended-marked;
+        }
+
+    pub marked-valid : ReportValid (markedReport (x .report) (v .marked)) (z .ts) (z .qs) (z .ps) (z .ls) (z .ws)
+    marked-valid = behind-all .valid
 
 ---- before the first line, and at the end
 
-pub none-yet : (r : Report) (u : Upcoming) (ts : List ThreadInfo) (b bs qs ls ws : List ℕ) → Starts r → NextLine r beginning b bs u → SoFar r u ts bs qs ls ws
+pub none-yet : (r : Report) (u : Upcoming) (ts : List ThreadInfo) (b bs qs ls ws : List ℕ) → Starts r → NextLine r beginning (markedBy r (noMarks r)) b bs u → SoFar r u ts bs qs ls ws
 unfolding feeds cut
 none-yet r u ts b bs qs ls ws s n = record { script = []; report = s .report ts qs ls ws; sent = []; text = ap (λ (i : ℕ). take i (drop 65_536 bs)) (n .pending); much = λ h. absurd (omega arith); ended = λ h l. refl }
 

@@ -1,6 +1,7 @@
 -- Parts of the walks.
 pub mod Leaping
 pub mod Pieces
+pub mod Marking
 pub mod Keeping
 pub mod Taking
 pub mod Advancing

@@ -35,6 +35,7 @@ use Rattle.feed_plan.specs.declared.Line.{Line}
 use Rattle.feed_plan.specs.declared.Next.{Next}
 use Rattle.feed_plan.specs.Meant.{reportMeant, ReportValid}
 use Rattle.report_io.specs.declared.Upcoming.{Upcoming}
+use Rattle.report_io.specs.Marks.{markedReport}
 use Rattle.report_io.specs.Blocks as Blocks
 use Rattle.report_io.specs.Blocks.{Roomy, Printable}
 use Rattle.walkkit.proofs.Again.{at-list, LentAgain, SharedAgain, relends, regains, reshares, unshares}
@@ -50,8 +51,8 @@ use Rattle.report_io.proofs.Upcoming as U
 use Rattle.report_io.proofs.Upcoming.Laws as U′
 use Rattle.report_io.proofs.line_of as g₁
 use Rattle.report_io.proofs.line_of.Symbol.{name as #line-of}
-use Rattle.report_io.proofs.report_of as g₂
-use Rattle.report_io.proofs.report_of.Symbol.{name as #report-of}
+use Rattle.report_io.proofs.marked_report as g₂
+use Rattle.report_io.proofs.marked_report.Symbol.{name as #marked-report}
 use Rattle.report_io.proofs.turn_of as g₃
 use Rattle.report_io.proofs.turn_of.Symbol.{name as #turn-of}
 use Rattle.report_io.proofs.printed.pass as g₄
@@ -65,8 +66,8 @@ use Rattle.report_io.proofs.printed.write_end.Symbol.{name as #write-end}
 abbrev pub LineIs : Upcoming → Val → Line → Type 0
 LineIs u w l = (l ≡ u .line) × Is L.the-row l (w ∷ [])
 
-abbrev pub ReportIs : Next → Val → Report → Type 0
-ReportIs x w r = (r ≡ x .report) × Is P.the-row r (w ∷ [])
+abbrev pub ReportIs : Next → Upcoming → Val → Report → Type 0
+ReportIs x u w r = (r ≡ markedReport (x .report) (u .marked)) × Is P.the-row r (w ∷ [])
 
 abbrev pub TurnIs : Upcoming → Val → ℕ → Type 0
 TurnIs u w t = (t ≡ u .place .turn) × Is u64 t (w ∷ [])
@@ -121,11 +122,11 @@ module _ {M : Type 1} (𝓤 : URA M) (H : Heap 𝓤) (A : Atoms 𝓤) (mem : Mem
         call-value 𝓤 H A W C fm #line-of LineOf met (uv ∷ []) ((tt, tt, tt, (u, tt), (uv ∷ [], tt)), tt) refl L.the-row (λ l. l ≡ u .line) (lasts g₁.ended tt (u, tt))
         (qed W [] ∵ nothing ! $ owned ! U.the-row (Is U.the-row) (LL.makes U.the-type U′.the-plain 𝓤 H A) u _ gu $ fjoin ! $ nothing ! $ join ! $ frame ! $ done !) (λ w. id⊢ 𝓤 _)
 
-    pub report-call : Triple 𝓤 (C #report-of) ReportOf → (x : Next) (xv : Val) → Is N.the-row x (xv ∷ [])
-        → ent 𝓤 (mean 𝓤 H A (‵ ftrue)) (H .⇛ (C #report-of (xv ∷ []) (λ w. mean 𝓤 H A (Gives 𝓤 Report (ReportIs x) (‵ ftrue) w))))
-    report-call met x xv gx =
-        call-value 𝓤 H A W C fm #report-of ReportOf met (xv ∷ []) ((tt, tt, tt, (x, tt), (xv ∷ [], tt)), tt) refl P.the-row (λ r. r ≡ x .report) (lasts g₂.ended tt (x, tt))
-        (qed W [] ∵ nothing ! $ owned ! N.the-row (Is N.the-row) (LL.makes N.the-type N′.the-plain 𝓤 H A) x _ gx $ fjoin ! $ nothing ! $ join ! $ frame ! $ done !) (λ w. id⊢ 𝓤 _)
+    pub report-call : Triple 𝓤 (C #marked-report) ReportOf → (x : Next) (u : Upcoming) (xv uv : Val) → Is N.the-row x (xv ∷ []) → Is U.the-row u (uv ∷ [])
+        → ent 𝓤 (mean 𝓤 H A (‵ ftrue)) (H .⇛ (C #marked-report (xv ∷ uv ∷ []) (λ w. mean 𝓤 H A (Gives 𝓤 Report (ReportIs x u) (‵ ftrue) w))))
+    report-call met x u xv uv gx gu =
+        call-value 𝓤 H A W C fm #marked-report ReportOf met (xv ∷ uv ∷ []) ((tt, tt, tt, (x, (u, tt)), (xv ∷ [], (uv ∷ [], tt))), tt) refl P.the-row (λ r. r ≡ markedReport (x .report) (u .marked)) (lasts g₂.ended tt (x, (u, tt)))
+        (qed W [] ∵ nothing ! $ owned ! U.the-row (Is U.the-row) (LL.makes U.the-type U′.the-plain 𝓤 H A) u _ gu $ fjoin ! $ owned ! N.the-row (Is N.the-row) (LL.makes N.the-type N′.the-plain 𝓤 H A) x _ gx $ fjoin ! $ nothing ! $ join ! $ frame ! $ done !) (λ w. id⊢ 𝓤 _)
 
     pub turn-call : Triple 𝓤 (C #turn-of) TurnOf → (u : Upcoming) (uv : Val) → Is U.the-row u (uv ∷ [])
         → ent 𝓤 (mean 𝓤 H A (‵ ftrue)) (H .⇛ (C #turn-of (uv ∷ []) (λ w. mean 𝓤 H A (Gives 𝓤 ℕ (TurnIs u) (‵ ftrue) w))))

@@ -21,10 +21,11 @@ use Rattle.feed_plan.specs.Steps.{fedOf, nextText}
 use Rattle.feed_plan.specs.Feeding.{Starts, LineRead, LineAsked, LineDone, Sayable, SaidAs}
 use Rattle.feed_plan.proofs.Feeding.{lines-few, line-asked, sayable, feed-done}
 use Rattle.report_io.specs.declared.Upcoming.{Upcoming}
+use Rattle.report_io.specs.Marks.{markedReport}
 use Rattle.report_io.specs.Blocks.{Roomy, lastTurn, firstOf, Standing, Awaits, Printable, Passed}
 use Rattle.sched.proofs.Memory.{Lists, Long}
 use Rattle.report.specs.Running.{SoFar, Runnable}
-use Rattle.report.proofs.Keeping.{kept}
+use Rattle.report.proofs.Keeping.{kept, marked-valid}
 
 abbrev limit : ℕ
 limit = lastTurn
@@ -84,24 +85,27 @@ module _ (r : Report) (u : Upcoming) (i : ℕ) (c : Line) (m : Lists) (bs : List
     )
 
     -- and what is known before the next turn
-    pub goes-on′ : (v : Upcoming) (bs′ : List ℕ) (r′ : Report) (t : ℕ) → Passed u x bs bs′ v → length bs′ ≡ length bs → r′ ≡ x .report → t ≡ v .place .turn → RunsIn r′ v t z bs′ × (i < t) × (t ≤ limit)
+    pub goes-on′ : (v : Upcoming) (bs′ : List ℕ) (r′ : Report) (t : ℕ) → Passed u x bs bs′ v → length bs′ ≡ length bs → r′ ≡ markedReport (x .report) (v .marked) → t ≡ v .place .turn → RunsIn r′ v t z bs′ × (i < t) × (t ≤ limit)
     goes-on′ v bs′ r′ t claim′ long′ e′ turn = (
       record {
-        valid = subst (λ (y : Report). ValidIn y z) (sym e′) valid-next;
+        valid = subst (λ (y : Report). ValidIn y z) (sym e′) (marked-valid r u m bs (runs .so-far) turn-less (runs .awaits .ahead) (standing .some) c says-it x z claim valid-next v bs′ claim′);
         awaits = subst (λ (y : Report). Awaits y bs′ v) (sym e′) (claim′ .awaits);
         turns = turn;
         room = subst (λ (k : ℕ). 131_072 ≤ k) (sym long′) (runs .room);
-        so-far = subst (λ (y : Report). SoFar y v (z .ts) bs′ (z .qs) (z .ls) (z .ws)) (sym e′) (kept r u m bs (runs .so-far) (subst (λ (t : ℕ). t < limit) (runs .turns) less) (runs .awaits .ahead) (standing .some) c says-it x z claim v bs′ claim′);
+        so-far = subst (λ (y : Report). SoFar y v (z .ts) bs′ (z .qs) (z .ls) (z .ws)) (sym e′) (kept r u m bs (runs .so-far) turn-less (runs .awaits .ahead) (standing .some) c says-it x z claim valid-next v bs′ claim′);
       },
       later-turn,
       subst (λ (k : ℕ). k ≤ limit) (sym turn) (claim′ .awaits .roomy .within .turns),
     )
       where
+        turn-less : u .place .turn < limit
+        turn-less = subst (λ (t : ℕ). t < limit) (runs .turns) less
+
         later-turn : i < t
         later-turn = subst (λ (k : ℕ). i < k) (sym turn) (subst (λ (k : ℕ). k < v .place .turn) (sym (runs .turns)) (claim′ .on))
 
 pub goes-on : (r : Report) (u : Upcoming) (i : ℕ) (c : Line) (m : Lists) (bs : List ℕ) (x : Next) (z : Lists) (v : Upcoming) (bs′ : List ℕ) (r′ : Report) (t : ℕ) → i < limit → RunsIn r u i m bs → c ≡ u .line → DoneIn r c m z x → Long m z
-    → Passed u x bs bs′ v → length bs′ ≡ length bs → r′ ≡ x .report → t ≡ v .place .turn → RunsIn r′ v t z bs′ × (i < t) × (t ≤ limit)
+    → Passed u x bs bs′ v → length bs′ ≡ length bs → r′ ≡ markedReport (x .report) (v .marked) → t ≡ v .place .turn → RunsIn r′ v t z bs′ × (i < t) × (t ≤ limit)
 goes-on r u i c m bs x z v bs′ r′ t less runs e claim long claim′ long′ e′ turn = goes-on′ r u i c m bs less runs e x z claim long v bs′ r′ t claim′ long′ e′ turn
 
 -- what stands at the end is short

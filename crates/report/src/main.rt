@@ -8,9 +8,9 @@ use report_io::MAX_TURNS;
 use report_io::Upcoming;
 use report_io::first::first_line;
 use report_io::line_of;
+use report_io::marked_report;
 use report_io::printed::pass;
 use report_io::printed::write_end;
-use report_io::report_of;
 use report_io::turn_of;
 ghost use mathlib.Core.Path.{_≡_};
 ghost use lib.ListN.{length};
@@ -122,7 +122,7 @@ fn run(
         let line = line_of(u);
         let next = advance(r, line, threads, queue, prios, log, lanes);
         u = pass(u, next, blocks);
-        r = report_of(next);
+        r = marked_report(next, u);
         let turns = turn_of(u);
         i = turns;
     }

@@ -1,5 +1,5 @@
 -- What is printed: a line's text behind what is pending, what stays pending, and the next line.
-use Prim.Native.Nat.{ℕ, _+_, _-_, _≤_, _<_}
+use Prim.Native.Nat.{ℕ, zero, suc, _+_, _-_, _≤_, _<_}
 use mathlib.Core.Path.{_≡_, refl, sym, ap, subst, _∙_}
 use mathlib.Core.Bool.{Bool, true, false, cond, _&&_}
 use mathlib.Core.List.{List, [], _∷_, _++_, append-assoc, append-nil}
@@ -9,12 +9,20 @@ use lib.Dec.{leb}
 use lib.ListN.{length, take, drop, length-append, length-drop}
 use lib.Seq.{paste, take-length, take-add, take-at, drop-at, length-take-le}
 use Rattle.text.specs.Buffers.{Put}
+use Rattle.feed_plan.specs.declared.Stage.{Stage}
+use Rattle.feed_plan.specs.declared.Stage.the-variants as StageCases
+use Rattle.feed_plan.specs.declared.Report.{Report}
 use Rattle.feed_plan.specs.declared.Next.{Next}
+use Rattle.feed_plan.specs.Meant.{Few}
 use Rattle.feed_plan.specs.Steps.{nextText}
+use Rattle.report_io.specs.declared.Ahead.{Ahead}
+use Rattle.report_io.specs.declared.Marked.{Marked}
 use Rattle.report_io.specs.declared.Place.{Place}
 use Rattle.report_io.specs.declared.Upcoming.{Upcoming}
-use Rattle.report_io.specs.Blocks.{Roomy, ended, lastTurn, standing, turnAhead, NextLine, pendingText, printedAs, writtenAs, heldBack, takesLines, Passed}
+use Rattle.report_io.specs.Marks.{retiredLines, marksAfter, noMarks, markedBy, markedReport, placeAfter, LinesAhead, MarkedWith}
+use Rattle.report_io.specs.Blocks.{Roomy, ended, noLine, lastTurn, standing, Standing, turnAhead, NextLine, pendingText, printedAs, writtenAs, heldBack, takesLines, Passed}
 use Rattle.report_io.proofs.Standing.{between-front, apart}
+use Rattle.report_io.proofs.Marking.{never}
 
 ---- a text put into the report's block
 
@@ -87,10 +95,10 @@ written-text p w b e = go (leb (p .pending) 65_248) refl
     go true f = rw (e, f)
     go false f = rw (e, f)
 
-turn-on : (l : List ℕ) (t : ℕ) → t < lastTurn → t < turnAhead l (t + 1)
+turn-on : (l : List ℕ) (t k : ℕ) → t < lastTurn → t < turnAhead l (t + 1 + k)
 unfolding turnAhead
-turn-on [] t h = h
-turn-on (x ∷ l) t h = omega arith
+turn-on [] t k h = h
+turn-on (x ∷ l) t k h = omega arith
 
 ---- whether a line follows
 
@@ -136,11 +144,16 @@ module _ (u : Upcoming) (x : Next) (b b1 : List ℕ) (after p : Place) (roomy : 
   turn-is : p .turn ≡ u .place .turn + 1
   turn-is = ap (λ (q : Place). q .turn) p-is ∙ written-turn 65_248 after (p .«all_written») b1 ∙ ap (λ (q : Place). q .turn) after-is
 
-  pub passed-last : (v : Upcoming) → Roomy (v .place) → v .place ≡ ended p → p .«all_written» && takesLines (x .report .stage) ≡ false → Passed u x b b1 v
-  passed-last v ok e f =
+  pub passed-last : (m : Marked) → m ≡ markedBy (x .report) (noMarks (x .report)) → (v : Upcoming) → Roomy (v .place) → v ≡ noLine p m → p .«all_written» && takesLines (x .report .stage) ≡ false → Passed u x b b1 v
+  unfolding retiredLines marksAfter
+  passed-last m m-is v ok is f =
+      let e : v .place ≡ ended p = ap (λ (w : Upcoming). w .place) is in
+      let k-is : v .marked ≡ markedBy (x .report) (noMarks (x .report)) = ap (λ (w : Upcoming). w .marked) is ∙ m-is in
       let turn : v .place .turn ≡ lastTurn = ap (λ (q : Place). q .turn) e in
       let done : v .place .«all_written» ≡ p .«all_written» = ap (λ (q : Place). q .«all_written») e in
       record {
+        lines = [];
+        marked = record { each = tt; calls = λ h. absurd (omega arith); counted = ap (λ (w : Marked). w .lines) k-is; progressed = ap (λ (w : Marked). w .progressed) k-is };
         awaits = record { roomy = ok; ahead = standing (u .place) b ++ []; line = λ h. absurd (omega (arith, turn, h)) };
         more = [];
         ahead = refl;
@@ -150,16 +163,72 @@ module _ (u : Upcoming) (x : Next) (b b1 : List ℕ) (after p : Place) (roomy : 
         on = subst (λ (n : ℕ). u .place .turn < n) (sym turn) less;
       }
 
-  pub passed-next : (b' : List ℕ) (v : Upcoming) → NextLine (x .report) p b1 b' v → p .«all_written» && takesLines (x .report .stage) ≡ true → Passed u x b b' v
-  passed-next b' v n f =
-      let done : v .place .«all_written» ≡ p .«all_written» = n .written in
-      let turn : v .place .turn ≡ turnAhead (n .awaits .ahead) (u .place .turn + 1) = n .turn ∙ ap (turnAhead (n .awaits .ahead)) turn-is in
-      record {
-        awaits = n .awaits;
-        more = n .more;
-        ahead = n .ahead ∙ ap (λ (l : List ℕ). l ++ n .more) standing-is;
-        text = ap (λ (i : ℕ). take i (drop 65_536 b')) (n .pending) ∙ ap (λ (l : List ℕ). take (p .pending) l) (n .behind) ∙ text-is;
-        turn = turn ∙ sym (rw (done, f));
-        over = λ g. n .over;
-        on = subst (λ (i : ℕ). u .place .turn < i) (sym turn) (turn-on (n .awaits .ahead) (u .place .turn) less);
-      }
+  module _ (a : Ahead) (l : LinesAhead (x .report) p b1 a) (m : Marked) (m-is : m ≡ markedBy (x .report) a) (q : Place) (q-is : q ≡ placeAfter (a .count) p) where
+    -- what the lines change of the report
+    marked-with : (w : Marked) → w ≡ m → MarkedWith (x .report) (l .lines) w
+    marked-with w e =
+        let counted : w .lines ≡ x .report .lines + length (l .lines) = ap (λ (z : Marked). z .lines) (e ∙ m-is) ∙ ap (λ (n : ℕ). x .report .lines + n) (l .count) in
+        record {
+          each = l .each;
+          calls = λ h. let t = l .takes h in (t .calls, t .unclosed, omega (arith, counted, t .lines, l .few));
+          counted = counted;
+          progressed = ap (λ (z : Marked). z .progressed) (e ∙ m-is) ∙ l .progressed;
+        }
+
+    place-is : q ≡ placeAfter (length (l .lines)) p
+    place-is = q-is ∙ ap (λ (n : ℕ). placeAfter n p) (l .count)
+
+    turn-after : q .turn ≡ u .place .turn + 1 + length (l .lines)
+    turn-after = ap (λ (z : Place). z .turn) place-is ∙ ap (λ (n : ℕ). n + length (l .lines)) turn-is
+
+    pub passed-next : (b' : List ℕ) (v : Upcoming) → NextLine (markedReport (x .report) m) q m b1 b' v → p .«all_written» && takesLines (x .report .stage) ≡ true → Passed u x b b' v
+    passed-next b' v n f =
+        let done : v .place .«all_written» ≡ p .«all_written» = n .written ∙ ap (λ (z : Place). z .«all_written») q-is in
+        let turn : v .place .turn ≡ turnAhead (n .awaits .ahead) (u .place .turn + 1 + length (l .lines)) = n .turn ∙ ap (turnAhead (n .awaits .ahead)) turn-after in
+        record {
+          lines = l .lines;
+          marked = marked-with (v .marked) (n .marked);
+          awaits = record { roomy = n .awaits .roomy; ahead = n .awaits .ahead; line = λ h. subst (λ (w : Marked). Standing (markedReport (x .report) w) (n .awaits .ahead) b' v) (sym (n .marked)) (n .awaits .line h) };
+          more = n .more;
+          ahead =
+              ap (λ (t : List ℕ). retiredLines (l .lines) ++ t) (n .ahead ∙ ap (λ (z : Place). standing z b1 ++ n .more) place-is) ∙
+              sym (append-assoc (retiredLines (l .lines)) (standing (placeAfter (length (l .lines)) p) b1) (n .more)) ∙
+              ap (λ (t : List ℕ). t ++ n .more) (sym (l .stands) ∙ standing-is);
+          text = ap (λ (i : ℕ). take i (drop 65_536 b')) (n .pending ∙ ap (λ (z : Place). z .pending) q-is) ∙ ap (λ (t : List ℕ). take (p .pending) t) (n .behind) ∙ text-is;
+          turn = turn ∙ sym (rw (done, f));
+          over = λ g. n .over;
+          on = subst (λ (i : ℕ). u .place .turn < i) (sym turn) (turn-on (n .awaits .ahead) (u .place .turn) (length (l .lines)) less);
+        }
+
+---- the lines that are counted
+
+pub few-more : (g : Stage) (n k : ℕ) → Few g n → (0 < k → n + k ≤ 1_000_000_000_000) → Few g (n + k)
+few-more g n zero h f = subst (Few g) (sym (add-zero n)) h
+  where
+    add-zero : (n : ℕ) → n + 0 ≡ n
+    add-zero n = omega arith
+few-more StageCases.Heads n (suc k) h f = f (omega arith)
+few-more StageCases.Calls n (suc k) h f = f (omega arith)
+few-more StageCases.Ended n (suc k) h f = tt
+few-more StageCases.Over n (suc k) h f = tt
+
+pub few-lines : (g : Stage) (n : ℕ) → takesLines g ≡ true → Few g n → n ≤ 1_000_000_000_000
+unfolding takesLines
+few-lines StageCases.Heads n e h = h
+few-lines StageCases.Calls n e h = h
+few-lines StageCases.Ended n e h = never e
+few-lines StageCases.Over n e h = never e
+
+-- behind the lines that were taken together
+module _ (r : Report) (p : Place) (b : List ℕ) (a : Ahead) (l : LinesAhead r p b a) where
+  pub few-after : (m : Marked) → m ≡ markedBy r a → Few (r .stage) (r .lines) → Few (r .stage) (m .lines)
+  few-after m e h =
+      subst (λ (n : ℕ). Few (r .stage) n) (sym (ap (λ (w : Marked). w .lines) e))
+      (few-more (r .stage) (r .lines) (a .count) h (λ k. let c = l .count in let t = l .takes (omega arith) in omega (arith, c, t .lines, l .few)))
+
+  pub roomy-after : Roomy p → Roomy (placeAfter (a .count) p)
+  roomy-after h = record { within = record { begins = omega (arith, l .within, l .count); ends = h .within .ends; pending = h .within .pending; turns = turns (l .lines) refl }; room = h .room }
+    where
+      turns : (ls : List ℕ) → l .lines ≡ ls → p .turn + a .count ≤ lastTurn
+      turns [] e = let n : length (l .lines) ≡ 0 = ap length e in omega (arith, h .within .turns, l .count)
+      turns (x ∷ ls) e = let n : length (l .lines) ≡ suc (length ls) = ap length e in let t = l .takes (omega arith) in omega (arith, t .turns, l .few, l .count)

@@ -17,13 +17,14 @@ use Rattle.script.proofs.Streams.{too-long}
 use Rattle.feed_plan.specs.declared.Report.{Report}
 use Rattle.feed_plan.specs.declared.Line.{Line}
 use Rattle.feed_plan.specs.Feeding.{LineRead}
+use Rattle.report_io.specs.declared.Marked.{Marked}
 use Rattle.report_io.specs.declared.Place.{Place}
 use Rattle.report_io.specs.declared.Upcoming.{Upcoming}
-use Rattle.report_io.specs.Blocks.{Roomy, lastTurn, ended, between, standing, broughtFront, Refilled, asks, Filled, firstOf, lineAhead, LineEnd, Standing, turnAhead, NextLine}
+use Rattle.report_io.specs.Blocks.{Roomy, lastTurn, ended, noLine, between, standing, broughtFront, Refilled, asks, Filled, firstOf, lineAhead, LineEnd, Standing, turnAhead, NextLine}
 
 ---- parts of a list
 
-drop-take : (a n : ℕ) (l : List ℕ) → a ≤ n → drop a (take n l) ≡ take (n - a) (drop a l)
+pub drop-take : (a n : ℕ) (l : List ℕ) → a ≤ n → drop a (take n l) ≡ take (n - a) (drop a l)
 drop-take zero n l h = ap (λ (k : ℕ). take k l) (same n)
   where
     same : (n : ℕ) → n ≡ n - 0
@@ -308,7 +309,7 @@ turn-none l t e = sym (ap (λ (l : List ℕ). turnAhead l t) e)
 
 ---- the next line of the script
 
-module _ (r : Report) (p q : Place) (b b' : List ℕ) (f : Filled p b b' q) where
+module _ (r : Report) (p q : Place) (m : Marked) (b b' : List ℕ) (f : Filled p b b' q) where
   abbrev ahead : List ℕ
   ahead = standing p b ++ f .more
 
@@ -319,11 +320,13 @@ module _ (r : Report) (p q : Place) (b b' : List ℕ) (f : Filled p b b' q) wher
       go true e = e
       go false e = absurd (omega (arith, f .enough e, h))
 
-  pub next-none : (u : Upcoming) → q .end ≤ q .at → Roomy (u .place) → u .place ≡ ended q → NextLine r p b b' u
-  next-none u h ok e =
+  pub next-none : (u : Upcoming) → q .end ≤ q .at → Roomy (u .place) → u ≡ noLine q m → NextLine r p m b b' u
+  next-none u h ok is =
+      let e : u .place ≡ ended q = ap (λ (v : Upcoming). v .place) is in
       let turn : u .place .turn ≡ lastTurn = ap (λ (s : Place). s .turn) e in
       record {
         awaits = record { roomy = ok; ahead = ahead; line = λ k. absurd (omega (arith, turn, k)) };
+        marked = ap (λ (v : Upcoming). v .marked) is;
         more = f .more;
         ahead = refl;
         unasked = λ g. f .unasked g .2;
@@ -340,7 +343,7 @@ module _ (r : Report) (p q : Place) (b b' : List ℕ) (f : Filled p b b' q) wher
     next-place = record { at = stop; end = q .end; «all_read» = q .«all_read»; pending = q .pending; «all_written» = q .«all_written»; turn = q .turn }
 
     abbrev upcoming : Upcoming
-    upcoming = record { line = l; place = next-place }
+    upcoming = record { line = l; place = next-place; marked = m }
 
     ahead-length : length ahead ≡ q .end - q .at
     ahead-length = ap length (sym (f .stands)) ∙ between-length (q .at) (q .end) b' (omega (arith, f .roomy .within .ends))
@@ -358,11 +361,12 @@ module _ (r : Report) (p q : Place) (b b' : List ℕ) (f : Filled p b b' q) wher
           ap (λ (t : List ℕ). drop (length (lineAhead ahead)) t) (f .stands);
     }
 
-    pub next-some : NextLine r p b b' upcoming
+    pub next-some : NextLine r p m b b' upcoming
     next-some =
         let w = f .roomy .within in
         record {
           awaits = record { roomy = record { within = record { begins = end .within; ends = w .ends; pending = w .pending; turns = w .turns }; room = f .roomy .room }; ahead = ahead; line = λ h. standing-next };
+          marked = refl;
           more = f .more;
           ahead = refl;
           unasked = λ g. f .unasked g .2;

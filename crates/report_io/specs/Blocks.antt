@@ -10,14 +10,18 @@ use Rattle.text.specs.Lines.{cut}
 use Rattle.feed_plan.specs.declared.Stage.{Stage}
 use Rattle.feed_plan.specs.declared.Stage.the-variants as StageCases
 use Rattle.feed_plan.specs.declared.Report.{Report}
+use Rattle.feed_plan.specs.declared.Reader.{Reader}
 use Rattle.feed_plan.specs.declared.Line.the-variants as LineCases
 use Rattle.feed_plan.specs.declared.Plain.the-variants as PlainCases
 use Rattle.feed_plan.specs.declared.Next.{Next}
 use Rattle.feed_plan.specs.Meant.{Few}
 use Rattle.feed_plan.specs.Steps.{nextText}
 use Rattle.feed_plan.specs.Feeding.{LineRead}
+use Rattle.report_io.specs.declared.Marked.{Marked}
 use Rattle.report_io.specs.declared.Place.{Place}
 use Rattle.report_io.specs.declared.Upcoming.{Upcoming}
+use Rattle.report_io.specs.Marks.{retiredLines, markedReport, MarkedWith}
+use Rattle.sched.specs.declared.Call.the-variants as CallCases
 
 ---- places
 
@@ -45,8 +49,8 @@ abbrev pub ended : Place → Place
 ended p = record { at = p .at; end = p .end; «all_read» = p .«all_read»; pending = p .pending; «all_written» = p .«all_written»; turn = lastTurn }
 
 -- no line follows
-abbrev pub noLine : Place → Upcoming
-noLine p = record { line = LineCases.Plain PlainCases.Nothing; place = ended p }
+abbrev pub noLine : Place → Marked → Upcoming
+noLine p m = record { line = LineCases.Plain PlainCases.Nothing; place = ended p; marked = m }
 
 ---- the script's block
 
@@ -113,14 +117,29 @@ pub record Awaits (r : Report) (b : List ℕ) (u : Upcoming) : Type 0 where
   pub ahead : List ℕ
   pub line : u .place .turn < lastTurn → Standing r ahead b u
 
+-- 01: "`tick=`", with its byte 10
+abbrev pub tickBytes : List ℕ
+tickBytes = 116 ∷ 105 ∷ 99 ∷ 107 ∷ 61 ∷ 10 ∷ []
+
+-- it stands next where calls are taken, and more stands behind it than a line's length
+pub record TickAhead (k : Reader) (p : Place) (b : List ℕ) : Type 0 where
+  pub enough : 256 < p .end - p .at
+  pub calls : k .stage ≡ StageCases.Calls
+  pub few : k .lines < 1_000_000_000_000
+  pub line : between (p .at) (p .at + 6) b ≡ tickBytes
+
+abbrev pub tickLine : Place → Marked → Upcoming
+tickLine p m = record { line = LineCases.Call CallCases.EndTick; place = record { at = p .at + 6; end = p .end; «all_read» = p .«all_read»; pending = p .pending; «all_written» = p .«all_written»; turn = p .turn }; marked = m }
+
 -- no line follows where nothing stands ahead
 unfoldable pub turnAhead : (ahead : List ℕ) → (turn : ℕ) → ℕ
 turnAhead [] t = lastTurn
 turnAhead (x ∷ l) t = t
 
 -- What stands ahead is what stood at the place before, and what was read since. Nothing stands ahead only where the script has ended.
-pub record NextLine (r : Report) (p : Place) (b b' : List ℕ) (u : Upcoming) : Type 0 where
+pub record NextLine (r : Report) (p : Place) (m : Marked) (b b' : List ℕ) (u : Upcoming) : Type 0 where
   pub awaits : Awaits r b' u
+  pub marked : u .marked ≡ m
   pub more : List ℕ
   pub ahead : awaits .ahead ≡ standing p b ++ more
   pub unasked : asks p ≡ false → more ≡ []
@@ -161,13 +180,16 @@ takesLines StageCases.Calls = true
 takesLines StageCases.Ended = false
 takesLines StageCases.Over = false
 
--- after a line: its text comes behind what is pending; a next line follows where it can still be printed, the report takes one, and the script has one
+-- After a line: its text comes behind what is pending; lines `retired=` are taken with it; a next line follows where it can still be printed, the report takes one, and
+-- the script has one.
 pub record Passed (u : Upcoming) (x : Next) (b b' : List ℕ) (v : Upcoming) : Type 0 where
-  pub awaits : Awaits (x .report) b' v
+  pub lines : List ℕ
+  pub marked : MarkedWith (x .report) lines (v .marked)
+  pub awaits : Awaits (markedReport (x .report) (v .marked)) b' v
   pub more : List ℕ
-  pub ahead : awaits .ahead ≡ standing (u .place) b ++ more
+  pub ahead : retiredLines lines ++ awaits .ahead ≡ standing (u .place) b ++ more
   pub text : pendingText (v .place) b' ≡ heldBack (pendingText (u .place) b ++ nextText x)
-  pub turn : v .place .turn ≡ cond (v .place .«all_written» && takesLines (x .report .stage)) (turnAhead (awaits .ahead) (u .place .turn + 1)) lastTurn
+  pub turn : v .place .turn ≡ cond (v .place .«all_written» && takesLines (x .report .stage)) (turnAhead (awaits .ahead) (u .place .turn + 1 + length lines)) lastTurn
   pub over : v .place .«all_written» && takesLines (x .report .stage) ≡ true → awaits .ahead ≡ [] → v .place .«all_read» ≡ true
   pub on : u .place .turn < v .place .turn
 

@@ -4,9 +4,11 @@ use feed_plan::Line;
 use feed_plan::Next;
 use feed_plan::Report;
 ghost use mathlib.Core.Path.{_≡_};
+ghost use Rattle.report_io.specs.Marks.{markedReport};
 
 pub mod first;
 pub mod input;
+pub mod marks;
 pub mod printed;
 
 // Both blocks have so many bytes.
@@ -26,10 +28,23 @@ pub struct Place {
     pub turn: u64,
 }
 
-// The next line, as it reads in the report's stage, and where the program is then.
+// What lines `retired=` that follow each other make of the progressed marks, and how many they are.
+pub struct Ahead {
+    pub progressed: [bool; 8],
+    pub count: usize,
+}
+
+// What such lines change of a report. The rest of it, which is long, is not copied for them.
+pub struct Marked {
+    pub lines: u64,
+    pub progressed: [bool; 8],
+}
+
+// The next line, as it reads in the report's stage, and where the program is then. `marked` is the report's where lines `retired=` were taken before it.
 pub struct Upcoming {
     pub line: Line,
     pub place: Place,
+    pub marked: Marked,
 }
 
 pub fn line_of(u: Upcoming) -> Line
@@ -45,8 +60,16 @@ pub fn turn_of(u: Upcoming) -> u64
     place.turn
 }
 
-pub fn report_of(next: Next) -> Report
-    ensures { λ r. ⌜ r ≡ next .report ⌝ }
+// The report after a line, and after the lines `retired=` that were taken with it.
+pub fn marked_report(next: Next, u: Upcoming) -> Report
+    ensures { λ r. ⌜ r ≡ markedReport (next .report) (u .marked) ⌝ }
 {
-    next.report
+    let marked = u.marked;
+    let mut report = next.report;
+    let mut sched = report.sched;
+    let progressed = marked.progressed;
+    sched.progressed = progressed;
+    report.sched = sched;
+    report.lines = marked.lines;
+    report
 }

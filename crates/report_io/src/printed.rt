@@ -4,10 +4,14 @@ use crate::Place;
 use crate::Upcoming;
 use crate::input::last;
 use crate::input::next_line;
+use crate::marks::lines_ahead;
+use crate::marks::marked_by;
+use crate::marks::place_after;
+use crate::marks::reader_after;
+use crate::marks::unmarked;
 use feed_plan::Next;
 use feed_plan::Report;
 use feed_plan::Stage;
-use feed_plan::reading::reader_of;
 use feed_plan::saying::put_text;
 use libc::STDOUT_FILENO;
 ghost use mathlib.Core.Path.{_≡_};
@@ -75,7 +79,7 @@ fn takes_lines(r: Report) -> bool
     }
 }
 
-// After a line: what it prints, and the line that follows, where one does.
+// After a line: what it prints, the lines `retired=` behind it, and the line that follows, where one does.
 pub fn pass(u: Upcoming, next: Next, blocks: &mut [u8]) -> Upcoming
     requires { ⌜ Roomy (u .place) × (u .place .turn < 1_000_000_000_001) × Printable next × (131_072 ≤ length (now blocks)) ⌝ }
     ensures { λ v. ⌜ Passed u next (now (blocks .entry)) (now (blocks .exit)) v ⌝ }
@@ -85,12 +89,19 @@ pub fn pass(u: Upcoming, next: Next, blocks: &mut [u8]) -> Upcoming
     let after = said(before, next, blocks);
     let p = written(after, BLOCK - 288, blocks);
     if !p.all_written {
-        return last(p);
+        return last(p, unmarked(report));
     }
     if !takes_lines(report) {
-        return last(p);
+        return last(p, unmarked(report));
     }
-    next_line(reader_of(report), p, blocks)
+    let ahead = lines_ahead(report, p, blocks);
+    let marked = marked_by(report, ahead);
+    next_line(
+        reader_after(report, marked),
+        place_after(p, ahead),
+        marked,
+        blocks,
+    )
 }
 
 // What is pending, and then what stands at the report's end: the buffer's first n bytes. The number of those that are written.

@@ -3,4 +3,5 @@ pub mod Reading
 pub mod Ticking
 pub mod Parts
 pub mod OneCore
+pub mod OnePlan
 pub mod Quiet

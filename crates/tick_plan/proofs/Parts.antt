@@ -23,6 +23,7 @@ use Rattle.model.proofs.Bounded.{takesIn}
 use Rattle.queue.specs.Words.{decode, movesIn, NoLonger, Appended}
 use Rattle.turns.specs.Turns.{rulesOf, Short}
 use Rattle.phases.specs.Cores.{passOf, observed}
+use Rattle.rings.specs.declared.RingPos.{RingPos}
 use Rattle.rings.specs.Ring.{capacity, RingOK}
 use Rattle.rings.specs.Events.{eventsIn}
 use Rattle.state.specs.declared.Sched.{Sched}
@@ -34,7 +35,7 @@ use Rattle.checks.specs.Check.{checkMeant, tickRefusal}
 use Rattle.tick_plan.specs.declared.Charged.{Charged}
 use Rattle.tick_plan.specs.declared.Planned.{Planned}
 use Rattle.tick_plan.specs.declared.Written.{Written}
-use Rattle.tick_plan.specs.Plan.{tickThreads, TickPending, ChargedOf, PlannedOf, WrittenOf, tickedSched}
+use Rattle.tick_plan.specs.Plan.{tickThreads, TickPending, ChargedOf, PlannedOf, WrittenAt, WrittenOf, tickedSched}
 use Rattle.tick_plan.proofs.Ticking.{threads-refused, tick-pending}
 
 pub refused-none : (s : Sched) (a : CallAnswer) (x : Refusal) → a ≡ CallCases.Refused x → checkMeant a ≡ tickRefusal s → 0 ≡ tickThreads s
@@ -55,19 +56,19 @@ pub short-same : (s : Sched) (cs : List Program.CoreState) → cs ≡ statesOf (
 short-same s cs e h j l = subst (λ (x : List Program.CoreState). Short (coreStateMeant (getD x j CoreStateCases.Idle))) (sym e) (h j l)
 
 -- the ring's words stand in the front of the log
-pub written : (s : Sched) (now : ℕ) (ms : List Move) (ls b : List ℕ) (w : Written) → 2 * s .capacities .events ≤ length ls → length b ≡ length (take (2 * s .capacities .events) ls) → RingOK b (w .log)
-    → eventsIn b (w .log) ≡ movedLog (capacity (take (2 * s .capacities .events) ls)) now ms (eventsIn (take (2 * s .capacities .events) ls) (s .log)) → w .takes ≡ takesIn ms
-    → switchesMeant (w .switches .entries) (w .switches .count) ≡ switchList [] ms → WrittenOf s now ms ls (b ++ drop (2 * s .capacities .events) ls) w
-written s now ms ls b w h l ok ev ta sw =
-    let k : length b ≡ 2 * s .capacities .events = l ∙ length-take-le (2 * s .capacities .events) ls h in
-    let e : logWords (s .capacities .events) (b ++ drop (2 * s .capacities .events) ls) ≡ b = take-at b (drop (2 * s .capacities .events) ls) (2 * s .capacities .events) k in
+pub written : (c : ℕ) (pos : RingPos) (now : ℕ) (ms : List Move) (ls b : List ℕ) (w : Written) → 2 * c ≤ length ls → length b ≡ length (take (2 * c) ls) → RingOK b (w .log)
+    → eventsIn b (w .log) ≡ movedLog (capacity (take (2 * c) ls)) now ms (eventsIn (take (2 * c) ls) pos) → w .takes ≡ takesIn ms
+    → switchesMeant (w .switches .entries) (w .switches .count) ≡ switchList [] ms → WrittenAt c pos now ms ls (b ++ drop (2 * c) ls) w
+written c pos now ms ls b w h l ok ev ta sw =
+    let k : length b ≡ 2 * c = l ∙ length-take-le (2 * c) ls h in
+    let e : logWords c (b ++ drop (2 * c) ls) ≡ b = take-at b (drop (2 * c) ls) (2 * c) k in
     record {
       ok = subst (λ (x : List ℕ). RingOK x (w .log)) (sym e) ok;
       events =
           ap (λ (x : List ℕ). eventsIn x (w .log)) e ∙ ev
-          ∙ ap (λ (n : ℕ). movedLog n now ms (eventsIn (take (2 * s .capacities .events) ls) (s .log))) (log-capacity (s .capacities .events) ls h);
-      after = drop-at b (drop (2 * s .capacities .events) ls) (2 * s .capacities .events) k;
-      long = length-front ls b (2 * s .capacities .events) l;
+          ∙ ap (λ (n : ℕ). movedLog n now ms (eventsIn (take (2 * c) ls) pos)) (log-capacity c ls h);
+      after = drop-at b (drop (2 * c) ls) (2 * c) k;
+      long = length-front ls b (2 * c) l;
       takes = ta;
       list = sw;
     }

@@ -16,6 +16,7 @@ use Rattle.model.proofs.Bounded.{takesIn}
 use Rattle.queue.specs.Words.{movesIn, NoLonger}
 use Rattle.turns.specs.Turns.{rulesOf, Short}
 use Rattle.phases.specs.Cores.{observed}
+use Rattle.rings.specs.declared.RingPos.{RingPos}
 use Rattle.rings.specs.Ring.{RingOK}
 use Rattle.rings.specs.Events.{eventsIn}
 use Rattle.ticks.specs.Room.{TicksRoom}
@@ -101,19 +102,27 @@ pub record PlannedOf (s : Sched) (qs qs' ps ws ws' : List ℕ) (p : Planned) : T
 
 ---- writing
 
-pub record WriteFits (s : Sched) (ls ws : List ℕ) (count now : ℕ) : Type 0 where
-  pub words : 2 * s .capacities .events ≤ length ls
-  pub ring : RingOK (logWords (s .capacities .events) ls) (s .log)
+-- the log stands at `pos` in the first `events` entries of its words
+pub record WriteFitsAt (events : ℕ) (pos : RingPos) (ls ws : List ℕ) (count now : ℕ) : Type 0 where
+  pub words : 2 * events ≤ length ls
+  pub ring : RingOK (logWords events ls) pos
   pub within : count ≤ length ws
   pub early : now < 4294967296
 
-pub record WrittenOf (s : Sched) (now : ℕ) (ms : List Move) (ls ls' : List ℕ) (w : Written) : Type 0 where
-  pub ok : RingOK (logWords (s .capacities .events) ls') (w .log)
-  pub events : eventsIn (logWords (s .capacities .events) ls') (w .log) ≡ movedLog (s .capacities .events) now ms (eventsIn (logWords (s .capacities .events) ls) (s .log))
-  pub after : drop (2 * s .capacities .events) ls' ≡ drop (2 * s .capacities .events) ls
+pub record WrittenAt (capacity : ℕ) (pos : RingPos) (now : ℕ) (ms : List Move) (ls ls' : List ℕ) (w : Written) : Type 0 where
+  pub ok : RingOK (logWords capacity ls') (w .log)
+  pub events : eventsIn (logWords capacity ls') (w .log) ≡ movedLog capacity now ms (eventsIn (logWords capacity ls) pos)
+  pub after : drop (2 * capacity) ls' ≡ drop (2 * capacity) ls
   pub long : length ls' ≡ length ls
   pub takes : w .takes ≡ takesIn ms
   pub list : switchesMeant (w .switches .entries) (w .switches .count) ≡ switchList [] ms
+
+-- the same of a state's log
+abbrev pub WriteFits : Sched → (ls ws : List ℕ) (count now : ℕ) → Type 0
+WriteFits s = WriteFitsAt (s .capacities .events) (s .log)
+
+abbrev pub WrittenOf : Sched → (now : ℕ) (ms : List Move) (ls ls' : List ℕ) → Written → Type 0
+WrittenOf s = WrittenAt (s .capacities .events) (s .log)
 
 ---- the state that is left
 

@@ -4,39 +4,43 @@ use crate::Decided;
 use crate::Planned;
 use crate::Ticked;
 use crate::Written;
+use crate::one::charge_one;
+use crate::one::is_single;
+use crate::one::plan_one;
 use accounts::counters::charge_ticks;
 use accounts::counters::count_takes;
 use accounts::lanes::charge_lanes;
-use accounts::lanes::charge_part;
 use accounts::log::log_moves;
 use checks::check_tick;
 use decide::tick::decide;
 use model::CallAnswer;
 use model::CoreState;
+use model::CoreTicks;
 use model::Tick;
 use quiet::is_quiet;
 use quiet::sliced_states;
+use rings::RingPos;
 use state::Sched;
 use state::pack;
-use state::state_in;
 use state::unpack;
 use switches::switch_list;
-use ticks::charged_ticks;
 ghost use mathlib.Core.Path.{_≡_};
 ghost use mathlib.Core.Bool.{true};
 ghost use mathlib.Core.List.{List, []};
 ghost use mathlib.Core.Option.{none};
 ghost use Prim.Native.Nat.{ℕ, _+_, _<_, _≤_, _^_};
-ghost use lib.ListN.{length};
+ghost use lib.ListN.{length, getD};
 ghost use Rattle.model.specs.declared.ThreadInfo.{ThreadInfo};
 ghost use Rattle.model.specs.Reading.{switchAnswerMeant};
 ghost use Rattle.model.specs.declared.CallAnswer.the-variants as CallCases;
 ghost use Rattle.queue.specs.Words.{movesIn};
-ghost use Rattle.state.specs.State.{statesOf, logWords, Valid};
+ghost use Rattle.state.specs.State.{statesOf, noTicks, noPos, laneStart, laneWords, logWords, Valid};
 ghost use Rattle.rings.specs.Ring.{RingOK};
 ghost use Rattle.quiet.specs.Quiet.{isQuiet, Roomy};
+ghost use Rattle.ticks.specs.Room.{TicksRoom};
+ghost use Rattle.accounts.specs.Charging.{TicksCharged, LanesCharged};
 ghost use Rattle.checks.specs.Check.{tickRefusal};
-ghost use Rattle.tick_plan.specs.Plan.{tickThreads, tickedSched, ChargeFits, ChargedOf, PlanFits, PlannedOf, WriteFits, WrittenOf, TickPending};
+ghost use Rattle.tick_plan.specs.Plan.{tickThreads, tickedSched, ChargeFits, ChargedOf, PlanFits, PlannedOf, WriteFitsAt, WriteFits, WrittenAt, WrittenOf, TickPending};
 
 // The threads that the call charges: none where it is refused.
 pub fn tick_threads(s: Sched) -> usize
@@ -84,30 +88,41 @@ pub fn ticked(d: Decided) -> Ticked
     }
 }
 
-// The same on a board of one core: its state alone is looked at, so that no array of states is made.
-fn charge_one(s: Sched, lanes: &mut [u64]) -> Charged
-    requires { ⌜ ChargeFits s (now lanes) × (s .cores ≡ 1) ⌝ }
-    ensures { λ r. ⌜ ChargedOf s (now (lanes .entry)) (now (lanes .exit)) r ⌝ }
+// The first n cores' counters and timelines. It takes the parts of the state that it needs: a state that is passed whole is stored whole first.
+fn charge_each(
+    states: [CoreState; 8],
+    old: [CoreTicks; 8],
+    pos: [RingPos; 8],
+    n: usize,
+    segments: usize,
+    tick: Tick,
+    lanes: &mut [u64],
+) -> Charged
+    requires { ⌜ (n ≤ 8) × ((i : ℕ) → i < n → TicksRoom (getD old i noTicks)) × (segments ≤ 4096) × (laneStart segments n ≤ length (now lanes)) × (tick .0 < 4294967295) × ((i : ℕ) → i < n → RingOK (laneWords segments i (now lanes)) (getD pos i noPos)) ⌝ }
+    ensures ticks { λ r. ⌜ TicksCharged n states old (r .ticks) ⌝ }
+    ensures lanes { λ r. ⌜ LanesCharged segments n (tick .0) states (now (lanes .entry)) (now (lanes .exit)) pos (r .lanes) ⌝ }
+    ensures eight { λ r. ⌜ (length (r .ticks) ≡ 8) × (length (r .lanes) ≡ 8) ⌝ }
 {
-    let words = s.states;
-    let first = words.c0;
-    let state = state_in(first);
-    let mut ticks = s.ticks;
-    let t = ticks[0];
-    let u = charged_ticks(t, state);
-    ticks[0] = u;
-    let mut pos = s.lanes;
-    let p = pos[0];
-    let capacities = s.capacities;
-    let end = 80 + 2 * capacities.segments;
-    let tick = s.now;
-    let q = charge_part(lanes, 80, end, p, tick, state);
-    pos[0] = q;
-    Charged { ticks, lanes: pos }
+    let ticks = charge_ticks(old, states, n);
+    let lanes = charge_lanes(lanes, pos, segments, states, n, tick);
+    Charged { ticks, lanes }
 }
 
 // "Charging a tick": the cores' counters and timelines.
 pub fn charge(s: Sched, lanes: &mut [u64]) -> Charged
+    requires { ⌜ ChargeFits s (now lanes) ⌝ }
+    ensures { λ r. ⌜ ChargedOf s (now (lanes .entry)) (now (lanes .exit)) r ⌝ }
+{
+    let states = core_states(s);
+    let old = s.ticks;
+    let pos = s.lanes;
+    let capacities = s.capacities;
+    let tick = s.now;
+    charge_each(states, old, pos, s.cores, capacities.segments, tick, lanes)
+}
+
+// The same with a test for one core. It does not call `charge`, which takes the state whole.
+fn charge_tick(s: Sched, lanes: &mut [u64]) -> Charged
     requires { ⌜ ChargeFits s (now lanes) ⌝ }
     ensures { λ r. ⌜ ChargedOf s (now (lanes .entry)) (now (lanes .exit)) r ⌝ }
 {
@@ -117,12 +132,10 @@ pub fn charge(s: Sched, lanes: &mut [u64]) -> Charged
     }
     let states = core_states(s);
     let old = s.ticks;
-    let ticks = charge_ticks(old, states, n);
     let pos = s.lanes;
     let capacities = s.capacities;
     let tick = s.now;
-    let lanes = charge_lanes(lanes, pos, capacities.segments, states, n, tick);
-    Charged { ticks, lanes }
+    charge_each(states, old, pos, n, capacities.segments, tick, lanes)
 }
 
 // What was decided, as one value.
@@ -185,14 +198,30 @@ fn plan(s: Sched, queue: &mut [u32], prios: &[u32], lanes: &mut [u64]) -> Planne
     planned(next, exits, blocks, yields, progressed, queued, moves)
 }
 
-// The moves in the front of the lanes, written into the log and into the switch list.
-pub fn write(s: Sched, log: &mut [u64], lanes: &[u64], moves: usize, tick: Tick) -> Written
-    requires { ⌜ WriteFits s (now log) (now lanes) moves (tick .0) ⌝ }
-    ensures { λ r. ⌜ WrittenOf s (tick .0) (movesIn (now (lanes .entry)) moves) (now (log .entry)) (now (log .exit)) r ⌝ }
+// The same, with one core by itself.
+fn plan_any(s: Sched, queue: &mut [u32], prios: &[u32], lanes: &mut [u64]) -> Planned
+    requires { ⌜ PlanFits s (now queue) (now prios) (now lanes) ⌝ }
+    ensures { λ r. ⌜ PlannedOf s (now (queue .entry)) (now (queue .exit)) (now (prios .entry)) (now (lanes .entry)) (now (lanes .exit)) r ⌝ }
 {
-    let pos = s.log;
-    let capacities = s.capacities;
-    let words = 2 * capacities.events;
+    if is_single(s) {
+        return plan_one(s, queue, prios, lanes);
+    }
+    plan(s, queue, prios, lanes)
+}
+
+// The moves in the front of the lanes, written into the switch list and into the log: a ring of `events` entries that stands at `pos`.
+fn write_at(
+    pos: RingPos,
+    events: usize,
+    log: &mut [u64],
+    lanes: &[u64],
+    moves: usize,
+    tick: Tick,
+) -> Written
+    requires { ⌜ WriteFitsAt events pos (now log) (now lanes) moves (tick .0) ⌝ }
+    ensures { λ r. ⌜ WrittenAt events pos (tick .0) (movesIn (now (lanes .entry)) moves) (now (log .entry)) (now (log .exit)) r ⌝ }
+{
+    let words = 2 * events;
     let takes = count_takes(lanes, moves);
     let switches = switch_list(lanes, moves);
     let log = log_moves(&mut log[..words], pos, lanes, moves, tick);
@@ -201,6 +230,16 @@ pub fn write(s: Sched, log: &mut [u64], lanes: &[u64], moves: usize, tick: Tick)
         takes,
         switches,
     }
+}
+
+// The same, in the log of `s`.
+pub fn write(s: Sched, log: &mut [u64], lanes: &[u64], moves: usize, tick: Tick) -> Written
+    requires { ⌜ WriteFits s (now log) (now lanes) moves (tick .0) ⌝ }
+    ensures { λ r. ⌜ WrittenOf s (tick .0) (movesIn (now (lanes .entry)) moves) (now (log .entry)) (now (log .exit)) r ⌝ }
+{
+    let pos = s.log;
+    let capacities = s.capacities;
+    write_at(pos, capacities.events, log, lanes, moves, tick)
 }
 
 // The state after a tick end.
@@ -304,13 +343,15 @@ fn tick_taken(
     ensures answer { λ r. ⌜ r .answer ≡ answer ⌝ }
     ensures pending { λ r. ⌜ ((ts : List ThreadInfo) → Valid s ts (now (queue .entry)) (now (prios .entry)) (now (log .entry)) (now (lanes .entry)) → answer ≡ CallCases.Taken → TickPending (switchAnswerMeant (r .answer) (r .switches .entries) (r .switches .count)) s (r .sched) (r .moves) ts (now (queue .entry)) (now (queue .exit)) (now (prios .entry)) (now (log .entry)) (now (log .exit)) (now (lanes .entry)) (now (lanes .exit))) ⌝ }
 {
-    let charged = charge(s, lanes);
+    let charged = charge_tick(s, lanes);
     if is_quiet(s) {
         return tick_quiet(s, answer, charged, lanes);
     }
-    let planned = plan(s, queue, prios, lanes);
+    let planned = plan_any(s, queue, prios, lanes);
     let tick = next_tick(s);
-    let written = write(s, log, lanes, planned.moves, tick);
+    let pos = s.log;
+    let capacities = s.capacities;
+    let written = write_at(pos, capacities.events, log, lanes, planned.moves, tick);
     let sched = after_tick(s, tick, charged, planned, written);
     let switches = written.switches;
     Decided {

@@ -77,9 +77,9 @@ use Rattle.feed.proofs.advance.Met as g₁-thm
 use Rattle.report_io.proofs.line_of.Symbol as g₂-def
 use Rattle.report_io.proofs.line_of.Symbol.{name as #line-of}
 use Rattle.report_io.proofs.line_of.Met as g₂-thm
-use Rattle.report_io.proofs.report_of.Symbol as g₃-def
-use Rattle.report_io.proofs.report_of.Symbol.{name as #report-of}
-use Rattle.report_io.proofs.report_of.Met as g₃-thm
+use Rattle.report_io.proofs.marked_report.Symbol as g₃-def
+use Rattle.report_io.proofs.marked_report.Symbol.{name as #marked-report}
+use Rattle.report_io.proofs.marked_report.Met as g₃-thm
 use Rattle.report_io.proofs.turn_of.Symbol as g₄-def
 use Rattle.report_io.proofs.turn_of.Symbol.{name as #turn-of}
 use Rattle.report_io.proofs.turn_of.Met as g₄-thm
@@ -103,7 +103,7 @@ abbrev stayed : Stays (f.ended .signature .params) (f.ended .kept)
 stayed = (stay-dropped (plain (λ _. P.the-row)) yes, (stay-dropped (plain (λ _. U.the-row)) yes, (stay-dropped (plain (λ _. u64)) yes, (stay-slice (0 ∷ []) tt (plain (λ _. T.the-row)), (stay-slice (1 ∷ []) tt (plain (λ _. u8)), (stay-slice (2 ∷ []) tt (plain (λ _. u32)), (stay-slice (3 ∷ []) tt (plain (λ _. u32)), (stay-slice (4 ∷ []) tt (plain (λ _. u64)), (stay-slice (5 ∷ []) tt (plain (λ _. u64)), tt)))))))))
 
 abbrev Known : {M : Type 1} (𝓤 : URA M) (H : Heap 𝓤) (A : Atoms 𝓤) (mem : Memory → SProp 𝓤) (run : Routine → Fun 𝓤) → Calls 𝓤 H → Type 1
-Known 𝓤 H A mem run C = Triple 𝓤 (C #advance) (Advance 𝓤 H A mem run) × (Triple 𝓤 (C #line-of) (LineOf 𝓤 H A mem run) × (Triple 𝓤 (C #report-of) (ReportOf 𝓤 H A mem run) × (Triple 𝓤 (C #turn-of) (TurnOf 𝓤 H A mem run) × (Triple 𝓤 (C #pass) (Pass 𝓤 H A mem run) × (Triple 𝓤 (C #finish) (Finish 𝓤 H A mem run) × Triple 𝓤 (C #write-end) (WriteEnd 𝓤 H A mem run))))))
+Known 𝓤 H A mem run C = Triple 𝓤 (C #advance) (Advance 𝓤 H A mem run) × (Triple 𝓤 (C #line-of) (LineOf 𝓤 H A mem run) × (Triple 𝓤 (C #marked-report) (ReportOf 𝓤 H A mem run) × (Triple 𝓤 (C #turn-of) (TurnOf 𝓤 H A mem run) × (Triple 𝓤 (C #pass) (Pass 𝓤 H A mem run) × (Triple 𝓤 (C #finish) (Finish 𝓤 H A mem run) × Triple 𝓤 (C #write-end) (WriteEnd 𝓤 H A mem run))))))
 
 -- what there is before a turn
 record Held : Type 0 where
@@ -124,7 +124,7 @@ limit = 1_000_000_000_001
 -- ---- the walk itself, at items and an end that are variables: Inv i is what is known before turn i
 module _ {M : Type 1} (𝓤 : URA M) (H : Heap 𝓤) (A : Atoms 𝓤) (W : Given 𝓤 H A) (𝓣 : Tables 𝓤 H) (e : Head → Ty) (End : Val → SProp 𝓤) (Inv : ℕ → Held → Type 0)
     (b o m b₀ o₀ m₀ b₁ o₁ m₁ b₂ o₂ m₂ b₃ o₃ m₃ b₄ o₄ m₄ : ℕ) (Ts : List ThreadInfo → Item 𝓤) (Four : Lists → Item 𝓤) (Bl : List ℕ → Item 𝓤)
-    (Φ₁ : Held → Val → Line → Type 0) (Φ₂ : Held → Line → Val → Out → Type 0) (Φ₃ : Held → Out → Val → Passed → Type 0) (Φ₄ : Out → Val → Report → Type 0) (Φ₅ : Passed → Val → ℕ → Type 0) (Φ₆ : Held → Val → Put-at-end → Type 0) (Φ₇ : Val → ℕ → Type 0) where
+    (Φ₁ : Held → Val → Line → Type 0) (Φ₂ : Held → Line → Val → Out → Type 0) (Φ₃ : Held → Out → Val → Passed → Type 0) (Φ₄ : Out → Passed → Val → Report → Type 0) (Φ₅ : Passed → Val → ℕ → Type 0) (Φ₆ : Held → Val → Put-at-end → Type 0) (Φ₇ : Val → ℕ → Type 0) where
   abbrev T′ : ℕ → Ty
   T′ k = localTy Mir.by-name e k
 
@@ -175,13 +175,13 @@ module _ {M : Type 1} (𝓤 : URA M) (H : Heap 𝓤) (A : Atoms 𝓤) (W : Given
 
   walk-at : ((i : ℕ) (x : Held) → Inv i x → Typed Mir.by-name e 10 (x .rv)) → ((i : ℕ) (x : Held) → Inv i x → Typed Mir.by-name e 11 (x .uv)) → ((i : ℕ) (x : Held) → Inv i x → Typed Mir.by-name e 1 (x .rv)) → ((i : ℕ) (x : Held) → Inv i x → Typed Mir.by-name e 2 (x .uv))
       → ((x : Held) (w : Val) (c : Line) → Φ₁ x w c → Typed Mir.by-name e 13 w) → ((x : Held) (c : Line) (w : Val) (y : Out) → Φ₂ x c w y → Typed Mir.by-name e 14 w) → ((x : Held) (y : Out) (w : Val) (z : Passed) → Φ₃ x y w z → Typed Mir.by-name e 11 w)
-      → ((y : Out) (w : Val) (r′ : Report) → Φ₄ y w r′ → Typed Mir.by-name e 10 w) → ((x : Held) (w : Val) (k : Put-at-end) → Φ₆ x w k → Typed Mir.by-name e 16 w) → ((w : Val) (k : ℕ) → Φ₇ w k → Typed Mir.by-name e 34 w)
+      → ((y : Out) (z : Passed) (w : Val) (r′ : Report) → Φ₄ y z w r′ → Typed Mir.by-name e 10 w) → ((x : Held) (w : Val) (k : Put-at-end) → Φ₆ x w k → Typed Mir.by-name e 16 w) → ((w : Val) (k : ℕ) → Φ₇ w k → Typed Mir.by-name e 34 w)
       → ((x : Held) (c : Line) (w : Val) (y : Out) → Φ₂ x c w y → y .val ≡ w) → ((x : Held) (y : Out) (w : Val) (z : Passed) → Φ₃ x y w z → z .val ≡ w) → ((z : Passed) (w : Val) (t : ℕ) → Φ₅ z w t → (w ≡ vint w64 t) × (t < 2 ^ 64))
-      → ((i : ℕ) → i < limit → (x : Held) → Inv i x → (w₁ : Val) (c : Line) → Φ₁ x w₁ c → (w₂ : Val) (y : Out) → Φ₂ x c w₂ y → (w₃ : Val) (z : Passed) → Φ₃ x y w₃ z → (w₄ : Val) (r′ : Report) → Φ₄ y w₄ r′ → (w₅ : Val) (t : ℕ) → Φ₅ z w₅ t → Inv t (taken y z w₄ r′) × (i < t) × (t ≤ limit))
+      → ((i : ℕ) → i < limit → (x : Held) → Inv i x → (w₁ : Val) (c : Line) → Φ₁ x w₁ c → (w₂ : Val) (y : Out) → Φ₂ x c w₂ y → (w₃ : Val) (z : Passed) → Φ₃ x y w₃ z → (w₄ : Val) (r′ : Report) → Φ₄ y z w₄ r′ → (w₅ : Val) (t : ℕ) → Φ₅ z w₅ t → Inv t (taken y z w₄ r′) × (i < t) × (t ≤ limit))
       → ((i : ℕ) (x : Held) → Inv i x → ent 𝓤 (mean 𝓤 H A (‵ ftrue)) (H .⇛ (𝓣 .C #line-of (x .uv ∷ []) (λ w. mean 𝓤 H A (Gives 𝓤 Line (Φ₁ x) (‵ ftrue) w)))))
       → ((i : ℕ) → i < limit → (x : Held) → Inv i x → (w₁ : Val) (c : Line) → Φ₁ x w₁ c → ent 𝓤 (mean 𝓤 H A (Five (x .lists))) (H .⇛ (𝓣 .C #advance (x .rv ∷ w₁ ∷ s₀ ∷ s₁ ∷ s₂ ∷ s₃ ∷ s₄ ∷ []) (λ w. mean 𝓤 H A (Returns 𝓤 Out (Φ₂ x c) (λ y. Five (y .lists)) w)))))
       → ((i : ℕ) → i < limit → (x : Held) → Inv i x → (w₁ : Val) (c : Line) → Φ₁ x w₁ c → (w₂ : Val) (y : Out) → Φ₂ x c w₂ y → ent 𝓤 (mean 𝓤 H A (Bl (x .bs))) (H .⇛ (𝓣 .C #pass (x .uv ∷ w₂ ∷ s ∷ []) (λ w. mean 𝓤 H A (Returns 𝓤 Passed (Φ₃ x y) (λ z. Bl (z .blocks)) w)))))
-      → ((x : Held) (c : Line) (w₂ : Val) (y : Out) → Φ₂ x c w₂ y → ent 𝓤 (mean 𝓤 H A (‵ ftrue)) (H .⇛ (𝓣 .C #report-of (w₂ ∷ []) (λ w. mean 𝓤 H A (Gives 𝓤 Report (Φ₄ y) (‵ ftrue) w)))))
+      → ((x : Held) (c : Line) (w₂ : Val) (y : Out) → Φ₂ x c w₂ y → (w₃ : Val) (z : Passed) → Φ₃ x y w₃ z → ent 𝓤 (mean 𝓤 H A (‵ ftrue)) (H .⇛ (𝓣 .C #marked-report (w₂ ∷ w₃ ∷ []) (λ w. mean 𝓤 H A (Gives 𝓤 Report (Φ₄ y z) (‵ ftrue) w)))))
       → ((x : Held) (y : Out) (w₃ : Val) (z : Passed) → Φ₃ x y w₃ z → ent 𝓤 (mean 𝓤 H A (‵ ftrue)) (H .⇛ (𝓣 .C #turn-of (w₃ ∷ []) (λ w. mean 𝓤 H A (Gives 𝓤 ℕ (Φ₅ z) (‵ ftrue) w)))))
       → ((x : Held) → Inv limit x → ent 𝓤 (mean 𝓤 H A (Ts (x .lists .ts) ⊛ Bl (x .bs))) (H .⇛ (𝓣 .C #finish (x .rv ∷ s ∷ s₀ ∷ []) (λ w. mean 𝓤 H A (Returns 𝓤 Put-at-end (Φ₆ x) (λ k. Ts (x .lists .ts) ⊛ Bl (k .blocks)) w)))))
       → ((x : Held) → Inv limit x → (w₆ : Val) (k : Put-at-end) → Φ₆ x w₆ k → ent 𝓤 (mean 𝓤 H A (Bl (k .blocks))) (H .⇛ (𝓣 .C #write-end (x .uv ∷ s ∷ w₆ ∷ []) (λ w. mean 𝓤 H A (Gives 𝓤 ℕ Φ₇ (Bl (k .blocks)) w)))))
@@ -231,9 +231,9 @@ module _ {M : Type 1} (𝓤 : URA M) (H : Heap 𝓤) (A : Atoms 𝓤) (W : Given
       calls-to ! (fmOf 𝓤 H (W .laws) 𝓣) Passed (Φ₃ x y) (Bl (x .bs)) (λ z. Bl (z .blocks)) (x .uv ∷ w₂ ∷ s ∷ []) (call₃ i less x inv w₁ c φ₁ w₂ y φ₂)
       (and-then ! (load ! (from ! (stop !)) (look ! 2 refl)) (and-then ! (load ! (from ! (stop !)) (look ! 17 refl)) (and-then ! (load ! (from ! (stop !)) (look ! 32 refl)) (no-more !)))) (λ w₃ z φ₃.
       land ! (from ! (stop !)) (store ! 2 refl (typed-z x y w₃ z φ₃)) $
-      -- ---- r = report_of(next)
-      nothing ! $ calls-by ! (fmOf 𝓤 H (W .laws) 𝓣) Report (Φ₄ y) (‵ ftrue) (‵ ftrue) (w₂ ∷ []) (call₄ x c w₂ y φ₂) (and-then ! (load ! (from ! (stop !)) (look ! 18 refl)) (no-more !)) (λ w₄ r′ φ₄. drop ! $
-      land ! (from ! (stop !)) (store ! 3 refl (typed-r′ y w₄ r′ φ₄)) $
+      -- ---- r = marked_report(next, u)
+      nothing ! $ calls-by ! (fmOf 𝓤 H (W .laws) 𝓣) Report (Φ₄ y z) (‵ ftrue) (‵ ftrue) (w₂ ∷ w₃ ∷ []) (call₄ x c w₂ y φ₂ w₃ z φ₃) (and-then ! (load ! (from ! (stop !)) (look ! 18 refl)) (and-then ! (load ! (from ! (stop !)) (look ! 3 refl)) (no-more !))) (λ w₄ r′ φ₄. drop ! $
+      land ! (from ! (stop !)) (store ! 3 refl (typed-r′ y z w₄ r′ φ₄)) $
       -- ---- let turns = turn_of(u)
       nothing ! $ calls-by ! (fmOf 𝓤 H (W .laws) 𝓣) ℕ (Φ₅ z) (‵ ftrue) (‵ ftrue) (w₃ ∷ []) (call₅ x y w₃ z φ₃) (and-then ! (load ! (from ! (stop !)) (look ! 3 refl)) (no-more !)) (λ w₅ t φ₅. drop ! $
       land ! (from ! (stop !)) (init ! 18 refl (subst (λ (v : Val). Typed Mir.by-name e 15 v) (sym (turn-is z w₅ t φ₅ .0)) (tt, record { fits = turn-is z w₅ t φ₅ .1 }))) $
@@ -354,7 +354,7 @@ module _ {M : Type 1} (𝓤 : URA M) (H : Heap 𝓤) (A : Atoms 𝓤) (W : Given
   uint-typed w t g = subst (λ (v : Val). Typed Mir.by-name (entry Mir.table) 16 v) (sym (uint-is w t g .0)) (tt, record { fits = g .1 })
 
   on : (i : ℕ) → i < limit → (x : Held) → Loop mm bs i x → (w₁ : Val) (c : Line) → LineIs (x .u) w₁ c → (w₂ : Val) (y : Out) → Told (x .r) c (x .lists) w₂ y → (w₃ : Val) (z : Passed) → PassedAs (x .u) (y .next) (x .bs) w₃ z
-      → (w₄ : Val) (r′ : Report) → ReportIs (y .next) w₄ r′ → (w₅ : Val) (t : ℕ) → TurnIs (z .upcoming) w₅ t → Loop mm bs t (taken y z w₄ r′) × (i < t) × (t ≤ limit)
+      → (w₄ : Val) (r′ : Report) → ReportIs (y .next) (z .upcoming) w₄ r′ → (w₅ : Val) (t : ℕ) → TurnIs (z .upcoming) w₅ t → Loop mm bs t (taken y z w₄ r′) × (i < t) × (t ≤ limit)
   unfolding Claim
   on i less x inv w₁ c φ₁ w₂ y φ₂ w₃ z φ₃ w₄ r′ φ₄ w₅ t φ₅ =
       let p = goes-on (x .r) (x .u) i c (x .lists) (x .bs) (y .next) (y .lists) (z .upcoming) (z .blocks) r′ t less (inv .runs) (φ₁ .0) (φ₂ .claim) (φ₂ .long) (φ₃ .claim) (φ₃ .long) (φ₄ .0) (φ₅ .0) in (
@@ -377,11 +377,11 @@ module _ {M : Type 1} (𝓤 : URA M) (H : Heap 𝓤) (A : Atoms 𝓤) (W : Given
   walk rv uv 𝓣 known gr gu gt room₀ room room₁ room₂ room₃ room₄ pre =
       via 𝓤 _ (enters rv uv)
       (walk-at 𝓤 H A W 𝓣 (entry Mir.table) (Post rv uv) (Loop mm bs) b o (length bs) b₀ o₀ (length (mm .ts)) b₁ o₁ (length (mm .qs)) b₂ o₂ (length (mm .ps)) b₃ o₃ (length (mm .ls)) b₄ o₄ (length (mm .ws)) Ts Four′ Bl
-      (λ x. LineIs (x .u)) (λ x c. Told (x .r) c (x .lists)) (λ x y. PassedAs (x .u) (y .next) (x .bs)) (λ y. ReportIs (y .next)) (λ z. TurnIs (z .upcoming)) (λ x. EndsAs (x .r) (x .lists .ts) (x .bs)) (λ v k. Is usize k (v ∷ []))
+      (λ x. LineIs (x .u)) (λ x c. Told (x .r) c (x .lists)) (λ x y. PassedAs (x .u) (y .next) (x .bs)) (λ y z. ReportIs (y .next) (z .upcoming)) (λ z. TurnIs (z .upcoming)) (λ x. EndsAs (x .r) (x .lists .ts) (x .bs)) (λ v k. Is usize k (v ∷ []))
       (λ i x inv. LL.lawful P.the-type P′.the-laws 𝓤 H A W .typed (x .r) _ (inv .is-r) .0) (λ i x inv. LL.lawful U.the-type U′.the-laws 𝓤 H A W .typed (x .u) _ (inv .is-u) .0)
       (λ i x inv. LL.lawful P.the-type P′.the-laws 𝓤 H A W .typed (x .r) _ (inv .is-r) .0) (λ i x inv. LL.lawful U.the-type U′.the-laws 𝓤 H A W .typed (x .u) _ (inv .is-u) .0)
       (λ x w c φ. EL.lawful L.the-type L′.the-laws 𝓤 H A W tt .typed c _ (φ .1) .0) (λ x c w y φ. LL.lawful N.the-type N′.the-laws 𝓤 H A W .typed (y .next) _ (φ .is) .0) (λ x y w z φ. LL.lawful U.the-type U′.the-laws 𝓤 H A W .typed (z .upcoming) _ (φ .is) .0)
-      (λ y w r′ φ. LL.lawful P.the-type P′.the-laws 𝓤 H A W .typed r′ _ (φ .1) .0) (λ x w k φ. uint-typed w (k .count) (φ .is)) (λ w k φ. uint-typed w k φ)
+      (λ y z w r′ φ. LL.lawful P.the-type P′.the-laws 𝓤 H A W .typed r′ _ (φ .1) .0) (λ x w k φ. uint-typed w (k .count) (φ .is)) (λ w k φ. uint-typed w k φ)
       (λ x c w y φ. φ .val-is) (λ x y w z φ. φ .val-is) (λ z w t φ. uint-is w t (φ .1)) on
       (λ i x inv. line-call 𝓤 H A mem run W (𝓣 .C) (fmOf 𝓤 H (W .laws) 𝓣) (known .1 .0) (x .u) (x .uv) (inv .is-u))
       (λ i less x inv w₁ c φ₁. advance-call 𝓤 H A mem run W b₀ o₀ (length (mm .ts)) b₁ o₁ (length (mm .qs)) b₂ o₂ (length (mm .ps)) b₃ o₃ (length (mm .ls)) b₄ o₄ (length (mm .ws)) (𝓣 .C) (fmOf 𝓤 H (W .laws) 𝓣) κ₀ κ₁ κ₂ κ₃ κ₄ q₀ q₁ q₂ q₃ q₄ γ₀ γ₁ γ₂ γ₃ γ₄ (x .r) c (x .rv) w₁ (x .lists)
@@ -390,7 +390,7 @@ module _ {M : Type 1} (𝓤 : URA M) (H : Heap 𝓤) (A : Atoms 𝓤) (W : Given
       (known .0) (asked (x .r) (x .u) i c (x .lists) (x .bs) less (inv .runs) (φ₁ .0)) (inv .is-r) (φ₁ .1))
       (λ i less x inv w₁ c φ₁ w₂ y φ₂. pass-call 𝓤 H A mem run W (𝓣 .C) (fmOf 𝓤 H (W .laws) 𝓣) κ q γ b o (length bs) (x .u) (y .next) (x .uv) w₂ (x .bs) (sym (inv .long-b)) (same-room u8 _ _ (inv .long-b) room) (known .1 .1 .1 .1 .0)
       (printable (x .r) (x .u) i c (x .lists) (x .bs) less (inv .runs) (φ₁ .0) (y .next) (y .lists) (φ₂ .claim) (φ₂ .long)) (inv .is-u) (φ₂ .is))
-      (λ x c w₂ y φ₂. report-call 𝓤 H A mem run W (𝓣 .C) (fmOf 𝓤 H (W .laws) 𝓣) (known .1 .1 .0) (y .next) w₂ (φ₂ .is))
+      (λ x c w₂ y φ₂ w₃ z φ₃. report-call 𝓤 H A mem run W (𝓣 .C) (fmOf 𝓤 H (W .laws) 𝓣) (known .1 .1 .0) (y .next) (z .upcoming) w₂ w₃ (φ₂ .is) (φ₃ .is))
       (λ x y w₃ z φ₃. turn-call 𝓤 H A mem run W (𝓣 .C) (fmOf 𝓤 H (W .laws) 𝓣) (known .1 .1 .1 .0) (z .upcoming) w₃ (φ₃ .is))
       (λ x inv. finish-call 𝓤 H A mem run W (𝓣 .C) (fmOf 𝓤 H (W .laws) 𝓣) κ q γ b o (length bs) κ₀ q₀ γ₀ b₀ o₀ (length (mm .ts)) (x .r) (x .rv) (x .bs) (x .lists .ts) (sym (inv .long-b)) (same-room u8 _ _ (inv .long-b) room) (sym (inv .long .threads)) (same-room T.the-row _ _ (inv .long .threads) room₀) (known .1 .1 .1 .1 .1 .0)
       ((x .lists .qs, x .lists .ps, x .lists .ls, x .lists .ws, inv .runs .valid), enough x inv) (inv .is-r))
@@ -432,7 +432,7 @@ run-spec 𝓤 H 𝓜 𝓖 𝓡 =
       (
         cited 𝓤 H (LineOf 𝓤 H (𝓖 .A) (𝓜 .mem) (𝓡 .run)) 𝓜 𝓡 code.env #line-of g₂-def.routine code.calls-report-io·line-of (g₂-thm.met 𝓤 H 𝓜 𝓖 𝓡),
         (
-          cited 𝓤 H (ReportOf 𝓤 H (𝓖 .A) (𝓜 .mem) (𝓡 .run)) 𝓜 𝓡 code.env #report-of g₃-def.routine code.calls-report-io·report-of (g₃-thm.met 𝓤 H 𝓜 𝓖 𝓡),
+          cited 𝓤 H (ReportOf 𝓤 H (𝓖 .A) (𝓜 .mem) (𝓡 .run)) 𝓜 𝓡 code.env #marked-report g₃-def.routine code.calls-report-io·marked-report (g₃-thm.met 𝓤 H 𝓜 𝓖 𝓡),
           (
             cited 𝓤 H (TurnOf 𝓤 H (𝓖 .A) (𝓜 .mem) (𝓡 .run)) 𝓜 𝓡 code.env #turn-of g₄-def.routine code.calls-report-io·turn-of (g₄-thm.met 𝓤 H 𝓜 𝓖 𝓡),
             (

@@ -1,64 +1,41 @@
 use borrow.Author.Needs.{needs}
 use native.Mathlib.Omega.{arith}
-use mathlib.Core.Path.{ap}
+use mathlib.Core.Path.{sym, subst}
+use denote.Ref.{now}
 use Rattle.feed_plan.specs.Feeding.{reportOf}
 use Rattle.report_io.specs.declared.Upcoming.{Upcoming}
-use Rattle.report_io.proofs.Standing.{next-none, next-some}
+use Rattle.report_io.specs.Blocks.{NextLine}
+use Rattle.report_io.proofs.Frequent.{tick-reads, tick-ends}
+use Rattle.report_io.proofs.Standing.{filled-enough, next-some}
 use Rattle.report_io.proofs.input.next_line.Statement.{statement}
 use Rattle.report_io.proofs.input.next_line.Tie as tie
 
-filled-requires : tie.Need-filled-requires
-filled-requires c κs = search needs
+is-tick-requires : tie.Need-is-tick-requires
+is-tick-requires c κs = (c .before .before .pre .1 .within, c .before .before .pre .2)
 
-last-requires : tie.Need-last-requires
-last-requires c κs = search needs
+tick-line-requires : tie.Need-tick-line-requires
+tick-line-requires c κs = search needs
 
 same-length : tie.Need-same-length
 same-length c = search needs
 
 returns : tie.Need-returns
 returns c =
-    let s = c .before .before .before .before .before .before .before in
-    let f = c .before .before .before .before .filled in
-    λ h. next-none (reportOf (s .args .k) h) (s .args .before) (f .result) (s .args .blocks .now) (f .last .1 .0) (f .ensures) (c .last .result) (omega arith) (c .last .ensures .0) (ap (λ (v : Upcoming). v .place) (c .last .ensures .1))
+    let s = c .before .before .before .before .before in
+    let p = s .args .before in
+    let b = now (s .args .blocks) in
+    let t = c .before .before .is-tick .ensures (c .before .if1 .taken) in
+    λ h. subst (λ (v : Upcoming). NextLine (reportOf (s .args .k) h) p (s .args .marked) b b v) (sym (c .tick-line .ensures))
+    (next-some (reportOf (s .args .k) h) p p (s .args .marked) b b (filled-enough p b (s .pre .1) (t .enough)) (s .pre .2) (omega (arith, t .enough)) _ (tick-ends (s .args .k) p b t) _ (tick-reads (s .args .k) p b t h))
 
-line-end-requires : tie.Need-line-end-requires
-line-end-requires c κs = search needs
-
-sub-read-piece : tie.Need-sub-read-piece
-sub-read-piece c = search needs
-
-part-read-piece-start : tie.Need-part-read-piece-start
-part-read-piece-start c = search needs
-
-part-read-piece-end : tie.Need-part-read-piece-end
-part-read-piece-end c = search needs
-
-read-piece-requires : tie.Need-read-piece-requires
-read-piece-requires c κs = search needs
+any-line-requires : tie.Need-any-line-requires
+any-line-requires c κs = search needs
 
 same-length-2 : tie.Need-same-length-2
 same-length-2 c = search needs
 
 returns-2 : tie.Need-returns-2
-returns-2 c =
-    let s = c .before .before .before .before .before .before .before .before .before .before .before in
-    let f = c .before .before .before .before .before .before .before .before .filled in
-    let e = c .before .before .before .line-end in
-    λ h. next-some (reportOf (s .args .k) h) (s .args .before) (f .result) (s .args .blocks .now) (f .last .1 .0) (f .ensures) (omega arith) (omega arith) (e .result) (e .ensures) (c .read-piece .result) (c .read-piece .ensures h)
+returns-2 c = search needs
 
 pub next-line-spec : {M : Type 1} → statement M
-next-line-spec =
-    tie.close
-    (tie.spec
-    filled-requires
-    last-requires
-    same-length
-    returns
-    line-end-requires
-    sub-read-piece
-    part-read-piece-start
-    part-read-piece-end
-    read-piece-requires
-    same-length-2
-    returns-2)
+next-line-spec = tie.close (tie.spec is-tick-requires tick-line-requires same-length returns any-line-requires same-length-2 returns-2)

@@ -1,10 +1,9 @@
 use borrow.Author.Needs.{needs}
-use native.Mathlib.Omega.{arith}
 use mathlib.Core.Path.{refl}
 use denote.Ref.{now}
 use Rattle.tick_plan.proofs.OneCore.{ticks-room, lane-fits, lane-ring, charged-one}
-use Rattle.tick_plan.proofs.tick.charge_one.Statement.{statement}
-use Rattle.tick_plan.proofs.tick.charge_one.Tie as tie
+use Rattle.tick_plan.proofs.one.charge_one.Statement.{statement}
+use Rattle.tick_plan.proofs.one.charge_one.Tie as tie
 
 state-in-requires : tie.Need-state-in-requires
 state-in-requires c κs = search needs
