@@ -1,5 +1,5 @@
-// Phases 1 to 5 of a tick end: each core's turn, cores ascending. A core that a phase leaves alone is not stored.
-// Each loop counts up before the turn, so that `continue` goes on with the next core, and has no early return: a shape chosen for speed.
+// Phases 1 to 5 of a tick end: each core's turn, cores ascending. A core that a phase leaves alone is not stored. A loop ends by `break`: a return from each of its
+// eight turns would copy the states eight times in the machine code.
 use dispatch::states;
 use model::CoreId;
 use model::CoreState;
@@ -28,10 +28,10 @@ pub fn phase1(cores: [CoreState; 8], n: usize) -> [CoreState; 8]
     ensures { λ r. ⌜ ((ex bl yi pr : List Bool) (q : List ℕ) (m : List Move) → Ran Phases.phase1 n (coreAt cores ex bl yi pr) q m (coreAt r ex bl yi pr) q m) ⌝ }
 {
     let mut cs = cores;
-    let mut k: usize = 0;
-    while k < n {
-        let i = k;
-        k += 1;
+    for i in 0..8 {
+        if n <= i {
+            break;
+        }
         let s = cs[i];
         let t = phase1::phase1_on(s);
         cs[i] = t;
@@ -46,10 +46,10 @@ pub fn phase2(cores: [CoreState; 8], n: usize, out: &mut [u64], count: &mut usiz
     ensures out { λ _. ⌜ Appended n (now (count .entry)) (now (count .exit)) (now (out .entry)) (now (out .exit)) ⌝ }
 {
     let mut cs = cores;
-    let mut k: usize = 0;
-    while k < n {
-        let i = k;
-        k += 1;
+    for i in 0..8 {
+        if n <= i {
+            break;
+        }
         let s = cs[i];
         if !states::is_switching(s) {
             continue;
@@ -78,10 +78,10 @@ pub fn phase3(
     ensures out { λ _. ⌜ Appended n (now (count .entry)) (now (count .exit)) (now (out .entry)) (now (out .exit)) ⌝ }
 {
     let mut cs = cores;
-    let mut k: usize = 0;
-    while k < n {
-        let i = k;
-        k += 1;
+    for i in 0..8 {
+        if n <= i {
+            break;
+        }
         if !phase3::is_marked(exits[i], blocks[i], yields[i]) {
             continue;
         }
@@ -121,10 +121,10 @@ pub fn phase4(
     ensures out { λ _. ⌜ Appended (2 * n) (now (count .entry)) (now (count .exit)) (now (out .entry)) (now (out .exit)) ⌝ }
 {
     let mut cs = cores;
-    let mut k: usize = 0;
-    while k < n {
-        let i = k;
-        k += 1;
+    for i in 0..8 {
+        if n <= i {
+            break;
+        }
         let s = cs[i];
         if !states::is_idle(s) {
             continue;
@@ -167,10 +167,10 @@ pub fn phase5(
     ensures out { λ _. ⌜ Appended (3 * n) (now (count .entry)) (now (count .exit)) (now (out .entry)) (now (out .exit)) ⌝ }
 {
     let mut cs = cores;
-    let mut k: usize = 0;
-    while k < n {
-        let i = k;
-        k += 1;
+    for i in 0..8 {
+        if n <= i {
+            break;
+        }
         let s = cs[i];
         if !phase5::has_turn(s, yields[i], policy, quantum, progressed[i]) {
             continue;

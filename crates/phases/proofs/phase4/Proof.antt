@@ -18,16 +18,13 @@ use Rattle.phases.proofs.phase4.Statement.{statement}
 use Rattle.phases.proofs.phase4.Tie as tie
 
 abbrev Inv-loop : tie.InvT-loop
-Inv-loop n policy cost prios progressed₀ queue₀ len₀ out₀ count₀ cs₀ k₀ progressed queue len out count cs k = (k ≤ n) × (length cs ≡ 8) × (length queue ≡ length queue₀) × (length out ≡ length out₀) × NoLonger len₀ len queue₀ queue × Appended (2 * k) count₀ count out₀ out × ((u : ℕ) (ex bl yi : List Bool) → Ran (Phases.phase4 (rulesOf policy u cost prios)) k (coreAt cs₀ ex bl yi progressed₀) (take len₀ queue₀) (movesIn out₀ count₀) (coreAt cs ex bl yi progressed) (take len queue) (movesIn out count))
+Inv-loop n policy cost prios progressed₀ queue₀ len₀ out₀ count₀ cs₀ i₀ progressed queue len out count cs i = (i ≤ n) × (length cs ≡ 8) × (length queue ≡ length queue₀) × (length out ≡ length out₀) × NoLonger len₀ len queue₀ queue × Appended (2 * i) count₀ count out₀ out × ((u : ℕ) (ex bl yi : List Bool) → Ran (Phases.phase4 (rulesOf policy u cost prios)) i (coreAt cs₀ ex bl yi progressed₀) (take len₀ queue₀) (movesIn out₀ count₀) (coreAt cs ex bl yi progressed) (take len queue) (movesIn out count))
 
 abbrev μ-loop : tie.MeasureT-loop
-μ-loop n policy cost prios progressed₀ queue₀ len₀ out₀ count₀ cs₀ k₀ progressed queue len out count cs k = n - k
+μ-loop n policy cost prios progressed₀ queue₀ len₀ out₀ count₀ cs₀ i₀ progressed queue len out count cs i = 8 - i
 
 loop-holds : tie.Need-loop-holds Inv-loop μ-loop
 loop-holds c = (search needs, search needs, refl, refl, no-longer-same _ _, appended-none _ _ _, λ u ex bl yi. loop-start _ _ _ _)
-
-add-k : tie.Need-add-k Inv-loop μ-loop
-add-k c = search needs
 
 mul-s : tie.Need-mul-s Inv-loop μ-loop
 mul-s c = search needs
@@ -38,23 +35,26 @@ array-copy-out-s c = search needs
 is-idle-requires : tie.Need-is-idle-requires Inv-loop μ-loop
 is-idle-requires c κs = search needs
 
+add-i : tie.Need-add-i Inv-loop μ-loop
+add-i c = search needs
+
 loop-less : tie.Need-loop-less Inv-loop μ-loop
 loop-less c = search needs
 
 loop-again : tie.Need-loop-again Inv-loop μ-loop
 loop-again c =
-    let v = c .before .before .before .before .loop .inv in (
-      omega (arith, c .before .before .before .loop-test .taken),
+    let v = c .before .before .before .before .before .loop .inv in (
+      omega (arith, c .before .before .before .if1 .left),
       v .1,
       v .2,
       v .3,
       v .4,
       appended-room _ (v .5) (omega arith),
-      λ u ex bl yi. core-unmoved _ _ _ _ _ _ _ _ _ _ _ _ (v .6 u ex bl yi) (omega (arith, c .before .before .before .loop-test .taken, c .before .before .before .before .before .before .before .before .pre .0, v .1)) (phase4-pass _ _ _ _ _ _ _ _ (sym (c .before .is-idle .ensures) ∙ not-true _ (c .if1 .taken))),
+      λ u ex bl yi. core-unmoved _ _ _ _ _ _ _ _ _ _ _ _ (v .6 u ex bl yi) (omega (arith, c .before .before .before .before .loop-test .taken, v .1)) (phase4-pass _ _ _ _ _ _ _ _ (sym (c .before .is-idle .ensures) ∙ not-true _ (c .if2 .taken))),
     )
 
-cast-t22 : tie.Need-cast-t22 Inv-loop μ-loop
-cast-t22 c = search needs
+cast-t21 : tie.Need-cast-t21 Inv-loop μ-loop
+cast-t21 c = search needs
 
 phase4-on-requires : tie.Need-phase4-on-requires Inv-loop μ-loop
 phase4-on-requires c κs = search needs
@@ -65,22 +65,25 @@ mul-cs c = search needs
 array-set-from-cs : tie.Need-array-set-from-cs Inv-loop μ-loop
 array-set-from-cs c = search needs
 
+add-i-2 : tie.Need-add-i-2 Inv-loop μ-loop
+add-i-2 c = search needs
+
 loop-less-2 : tie.Need-loop-less-2 Inv-loop μ-loop
 loop-less-2 c = search needs
 
 loop-again-2 : tie.Need-loop-again-2 Inv-loop μ-loop
 loop-again-2 c =
-    let l = c .before .before .before .before .before .before .before .before .before .before .before .before .before .before .loop in
-    let j = l .k in
+    let l = c .before .before .before .before .before .before .before .before .before .before .before .before .before .before .before .loop in
+    let j = l .i in
     let f = c .before .before .before .before .phase4-on in
     let v = l .inv in (
-      omega (arith, c .before .before .before .before .before .before .before .before .before .before .before .before .before .loop-test .taken),
+      omega (arith, c .before .before .before .before .before .before .before .before .before .before .before .before .before .if1 .left),
       simp length-set (v .1),
       f .kept .1 .1 .1 .1 .1 .1 .0 ∙ v .2,
       f .kept .1 .1 .1 .1 .1 .1 .1 .1 .0 ∙ v .3,
       no-longer-both (v .4) (f .ensures .1 .1 .0),
       appended-both _ (v .5) (f .ensures .1 .1 .1) (omega arith),
-      λ u ex bl yi. core-turn _ _ _ _ _ _ _ _ _ _ _ _ (v .6 u ex bl yi) (omega (arith, c .before .before .before .before .before .before .before .before .before .before .before .before .before .loop-test .taken, c .before .before .before .before .before .before .before .before .before .before .before .before .before .before .before .before .before .before .pre .0, v .1)) _ _ _ _ _ _ _ (besides-same ex j) (besides-same bl j) (besides-same yi j) (f .ensures .1 .0) (f .ensures .0 u (getD ex j false) (getD bl j false) (getD yi j false)),
+      λ u ex bl yi. core-turn _ _ _ _ _ _ _ _ _ _ _ _ (v .6 u ex bl yi) (omega (arith, c .before .before .before .before .before .before .before .before .before .before .before .before .before .before .loop-test .taken, v .1)) _ _ _ _ _ _ _ (besides-same ex j) (besides-same bl j) (besides-same yi j) (f .ensures .1 .0) (f .ensures .0 u (getD ex j false) (getD bl j false) (getD yi j false)),
     )
 
 same-length : tie.Need-same-length Inv-loop μ-loop
@@ -92,7 +95,18 @@ same-length-2 c = search needs
 returns : tie.Need-returns Inv-loop μ-loop
 returns c =
     let v = c .before .loop .inv in
-    (λ u ex bl yi. loop-end (v .6 u ex bl yi) (c .before .before .before .before .before .args .n) (v .0) (c .loop-test .left), (v .4, appended-room _ (v .5) (omega (arith, v .0))))
+    (λ u ex bl yi. loop-end (v .6 u ex bl yi) (c .before .before .before .before .before .args .n) (v .0) (omega (arith, c .loop-test .left, c .before .before .before .before .before .pre .0)), (v .4, appended-room _ (v .5) (omega (arith, v .0))))
+
+same-length-3 : tie.Need-same-length-3 Inv-loop μ-loop
+same-length-3 c = search needs
+
+same-length-4 : tie.Need-same-length-4 Inv-loop μ-loop
+same-length-4 c = search needs
+
+returns-2 : tie.Need-returns-2 Inv-loop μ-loop
+returns-2 c =
+    let v = c .before .before .loop .inv in
+    (λ u ex bl yi. loop-end (v .6 u ex bl yi) (c .before .before .before .before .before .before .args .n) (v .0) (c .if1 .taken), (v .4, appended-room _ (v .5) (omega (arith, v .0))))
 
 pub phase4-spec : {M : Type 1} → statement M
 phase4-spec =
@@ -101,18 +115,22 @@ phase4-spec =
     Inv-loop
     μ-loop
     loop-holds
-    add-k
     mul-s
     array-copy-out-s
     is-idle-requires
+    add-i
     loop-less
     loop-again
-    cast-t22
+    cast-t21
     phase4-on-requires
     mul-cs
     array-set-from-cs
+    add-i-2
     loop-less-2
     loop-again-2
     same-length
     same-length-2
-    returns)
+    returns
+    same-length-3
+    same-length-4
+    returns-2)
