@@ -71,6 +71,8 @@ def broken(r, line):
         return ""
     if kind == 7:
         return r.choice(["sched=rr", "cores=2", "tick=1", "join=0", "force=0", "exit=0,0", "sched_quantum=0", "cores=9", "=", "sched=rrr", "sched_switch_cost=10001"])
+    if not line:
+        return "="
     at = r.randrange(len(line))
     return line[:at] + line[at + 1:]
 

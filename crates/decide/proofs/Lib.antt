@@ -1,4 +1,3 @@
 pub mod Whole
 pub mod Forcing
 pub mod Asked
-pub mod OneCore

@@ -1,4 +1,3 @@
 // The decisions of a tick end and of a forced switch: what becomes of the core states, the marks and the queue, and the moves.
 pub mod force;
-pub mod one;
 pub mod tick;

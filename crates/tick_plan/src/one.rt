@@ -2,7 +2,7 @@
 use crate::Charged;
 use crate::Planned;
 use accounts::lanes::charge_part;
-use decide::one::decide_one;
+use decide_one::decide_one;
 use model::CoreState;
 use settings::SchedPolicy;
 use state::Eight;

@@ -1,4 +1,4 @@
--- `decide::one::decide_one` meets its contract. Assumes nothing.
+-- `decide_one::decide_one` meets its contract. Assumes nothing.
 use borrow.Author.Needs.{needs}
 use native.Mathlib.Omega.{arith}
 use mathlib.Core.Path.{refl, _∙_}
@@ -10,10 +10,10 @@ use Rattle.queue.specs.Words.{movesIn}
 use Rattle.queue.proofs.Frames.{appended-both, no-longer-both}
 use Rattle.turns.specs.Turns.{rulesOf}
 use Rattle.turns.proofs.Steps.{besides-same, phase1-turn}
 use Rattle.decide.proofs.Whole.{all-six}
-use Rattle.decide.proofs.OneCore.{one-turn, no-phase6}
-use Rattle.decide.proofs.one.decide_one.Statement.{statement}
-use Rattle.decide.proofs.one.decide_one.Tie as tie
+use Rattle.decide_one.proofs.OneCore.{one-turn, no-phase6}
+use Rattle.decide_one.proofs.decide_one.Statement.{statement}
+use Rattle.decide_one.proofs.decide_one.Tie as tie
 
 phase1-on-requires : tie.Need-phase1-on-requires
 phase1-on-requires c κs = search needs

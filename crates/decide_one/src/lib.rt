@@ -1,4 +1,4 @@
-// The phases on a board of one core.
+// The decisions of a tick end on a board of one core. A crate of its own, so that an edit on `decide` is checked in less than half a minute.
 use model::CoreId;
 use model::CoreState;
 use settings::SchedPolicy;
