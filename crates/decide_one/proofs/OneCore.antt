@@ -1,13 +1,12 @@
 -- A phase over a board of one core: that core's turn.
 -- Assumes nothing.
 use Prim.Native.Nat.{ℕ}
-use mathlib.Core.Path.{_≡_, refl}
 use mathlib.Core.Bool.{Bool, false}
 use mathlib.Core.List.{List, _∷_}
 use native.Mathlib.Omega.{arith}
 use lib.ListN.{getD}
-use Rattle.model.specs.Types.{Policy, Off, Fifo, RoundRobin, Priority, Move}
-use Rattle.model.specs.Phases.{Rules, Pass, Phase, phase6}
+use Rattle.model.specs.Types.{Move}
+use Rattle.model.specs.Phases.{Phase}
 use Rattle.model.specs.declared.CoreState as Program
 use Rattle.turns.specs.Turns.{coreOf, Turned, Besides}
 use Rattle.phases.specs.Cores.{coreAt, Ran}
@@ -20,11 +19,3 @@ pub one-turn :
     → (cs : List Program.CoreState) → Ran f 1 (coreAt (s ∷ cs) ex bl yi pr) q m (coreAt (r ∷ cs) ex' bl' yi' pr') q' m'
 one-turn f s ex bl yi pr q m r ex' bl' yi' pr' q' m' be bb by bp t cs =
     core-turn f (coreAt (s ∷ cs) ex bl yi pr) q m 0 (s ∷ cs) ex bl yi pr q m (loop-start _ _ _ _) (omega arith) r ex' bl' yi' pr' q' m' be bb by bp t
-
--- phase 6 does something under priority only
-pub no-phase6 : (p : Policy) (k : Rules) (x : Pass) → (p ≡ Priority → ⊥) → x ≡ phase6 p k x
-unfolding phase6
-no-phase6 Off k x n = refl
-no-phase6 Fifo k x n = refl
-no-phase6 RoundRobin k x n = refl
-no-phase6 Priority k x n = absurd (n refl)

@@ -8,8 +8,8 @@ use rcfg::Head;
 use rings::RingPos;
 use settings::SchedConfig;
 use state::CoreWords;
-use state::Eight;
 use state::Sched;
+use state::others_idle;
 ghost use Rattle.feed_plan.specs.Feeding.{Starts};
 
 // A state that no call has seen: up to `cores=` it stands for nothing.
@@ -27,16 +27,7 @@ fn no_sched() -> Sched {
         tid: 0,
         count: 0,
     };
-    let states = Eight {
-        c0: idle,
-        c1: idle,
-        c2: idle,
-        c3: idle,
-        c4: idle,
-        c5: idle,
-        c6: idle,
-        c7: idle,
-    };
+    let states = others_idle(idle);
     Sched {
         config,
         capacities: sizes,

@@ -8,7 +8,7 @@ use native.Mathlib.Omega.{arith}
 use lib.Dec.{eqb, leb}
 use lib.ListN.{length, length-map}
 use borrow.Author.Tests.{eqb-true, leb-true, leb-false}
-use Rattle.model.specs.Types.{Policy, RoundRobin, CoreState, Idle, Switching, Running, LeaveReason, Core, Move, starts, leaves, takes, State}
+use Rattle.model.specs.Types.{Policy, Off, Fifo, RoundRobin, Priority, CoreState, Idle, Switching, Running, LeaveReason, Core, Move, starts, leaves, takes, State}
 use Rattle.model.specs.Phases.{Rules, Turn, Pass, Phase, ascend, andThen, update, dispatchedState, dispatchMoves, sliced, phase1, switchedIn, isDue, phase2, leavesFor, holder, vacate, phase3, filled, phase4, handOver, wantsHandOver, phase5, phase6, phases1To4, decide, pickNext, ceilingOf, withState, unyielded}
 use Rattle.model.specs.Calls.{Call, spawn, exit, join, retired, yield, priority, timing, force, tick, close, JoinOutcome, Wait, Done, Invalid, accept, stepped, refusal, rules, exited, blocking, outcome, threadStateOf, tidOn, outOf, coreStateOf, slicedAll, unmarked, takenBy, forcedCore, markExit, markBlock, markYield, markProgress, priorityOf}
 use Rattle.model.specs.Claims.{Observed, reportsAfter, reportsCleared, reports, observed, observe, timingIs, timingKept, observeAll, refusalOf}
@@ -20,7 +20,7 @@ use Rattle.model.specs.Phases.{cleared}
 use Rattle.model.specs.Types.{Config}
 use Rattle.model.specs.Calls.{check, Made, made, unmade, new, madeOf, refusedNew, initialState, idleCore, beyond}
 use Rattle.model.specs.Claims.{unobserved}
-use Rattle.model.proofs.PhaseLaws.{or-false-l}
+use Rattle.model.proofs.PhaseLaws.{or-false-l, not-both}
 
 ---- a core that switches has between 1 and the cost to go
 
@@ -91,12 +91,19 @@ fit-5 : (k : Rules) (i : ℕ) (c : Core) (q : List ℕ) → Fit (k .cost) c → 
 unfolding phase5
 fit-5 k i c q h = fit-handOver k i (unyielded c) q (c .state) _ _ _ h
 
-pub phase6-rr : (k : Rules) (p : Pass) → k .policy ≡ RoundRobin → phase6 (k .policy) k p ≡ p
+-- phase 6 does something under priority only
+pub phase6-rests : (o : Policy) (k : Rules) (p : Pass) → (o ≡ Priority → ⊥) → phase6 o k p ≡ p
 unfolding phase6
-phase6-rr k p e = go (k .policy) e
+phase6-rests Off k p n = refl
+phase6-rests Fifo k p n = refl
+phase6-rests RoundRobin k p n = refl
+phase6-rests Priority k p n = absurd (n refl)
+
+pub phase6-rr : (k : Rules) (p : Pass) → k .policy ≡ RoundRobin → phase6 (k .policy) k p ≡ p
+phase6-rr k p e = subst (λ (o : Policy). phase6 o k p ≡ p) (sym e) (phase6-rests RoundRobin k p not-priority)
   where
-    go : (o : Policy) → o ≡ RoundRobin → phase6 o k p ≡ p
-    go o e′ = rw (e′, phase6)
+    not-priority : RoundRobin ≡ Priority → ⊥
+    not-priority p = let z : _≡_ {A = ℕ} 0 1 = cc in omega arith
 
 pub decide-fit : (k : Rules) → k .policy ≡ RoundRobin → (cs : List Core) (q : List ℕ) → All (Fit (k .cost)) cs → All (Fit (k .cost)) (decide k cs q .cores)
 unfolding decide phases1To4 andThen
@@ -184,19 +191,13 @@ covers-reportsCleared [] r cs a = a
 covers-reportsCleared (starts t ∷ ms) r cs a = covers-reportsCleared ms r cs a
 covers-reportsCleared (leaves t i x ∷ ms) r cs a = covers-reportsCleared ms r cs a
 covers-reportsCleared (takes t i ∷ ms) r cs a =
-    covers-reportsCleared ms _ cs (subst (λ (l : List Core). All2 Covers (update i (λ (b : Bool). false) r) l) (update-same i cs) (covers-update (λ b. false) (λ c. c) (λ b c h e. absurd (ft e)) i r cs a))
-  where
-    ft : false ≡ true → ⊥
-    ft p = let z : _≡_ {A = ℕ} 0 1 = cc in omega arith
+    covers-reportsCleared ms _ cs (subst (λ (l : List Core). All2 Covers (update i (λ (b : Bool). false) r) l) (update-same i cs) (covers-update (λ b. false) (λ c. c) (λ b c h e. absurd (not-both false e refl)) i r cs a))
 
 pub covers-none : {A : Type 0} (r : List A) (cs : List Core) → length r ≡ length cs → All2 Covers (map (λ (b : A). false) r) cs
 covers-none [] [] e = tt
 covers-none [] (c ∷ cs) e = omega arith
 covers-none (b ∷ r) [] e = omega arith
-covers-none (b ∷ r) (c ∷ cs) e = ((λ p. absurd (ft p)), covers-none r cs (omega arith))
-  where
-    ft : false ≡ true → ⊥
-    ft p = let z : _≡_ {A = ℕ} 0 1 = cc in omega arith
+covers-none (b ∷ r) (c ∷ cs) e = ((λ p. absurd (not-both false p refl)), covers-none r cs (omega arith))
 
 forced-moves : (i : ℕ) (o : CoreState) (k t : ℕ) (r : List Bool) → reportsCleared (outOf i o ++ dispatchMoves k t i) r ≡ update i (λ b. false) r
 unfolding reportsCleared outOf dispatchMoves
@@ -225,10 +226,7 @@ accept-covers s (priority t n) r o a = a
 accept-covers s (timing q w) r o a = a
 accept-covers s (force i n) r o a =
     subst (λ (l : List Bool). All2 Covers l (update i (forcedCore (s .config .cost) (takenBy s i n)) (s .cores))) (sym (forced-moves i (coreStateOf s i) (s .config .cost) (takenBy s i n) r))
-    (covers-update (λ b. false) (forcedCore (s .config .cost) (takenBy s i n)) (λ b c h e. absurd (ft e)) i r (s .cores) a)
-  where
-    ft : false ≡ true → ⊥
-    ft p = let z : _≡_ {A = ℕ} 0 1 = cc in omega arith
+    (covers-update (λ b. false) (forcedCore (s .config .cost) (takenBy s i n)) (λ b c h e. absurd (not-both false e refl)) i r (s .cores) a)
 accept-covers s tick r o a =
     covers-reportsCleared (decide (rules s) (s .cores) (s .queue) .moves) _ _ (covers-none r _ (all2-length Covers r (s .cores) a ∙ sym (decide-length (rules s) o (s .cores) (s .queue))))
 accept-covers s (close i) r o a =

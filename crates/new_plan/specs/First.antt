@@ -16,13 +16,9 @@ use Rattle.rings.specs.declared.RingPos.{RingPos}
 use Rattle.rings.specs.Ring.{RingOK, capacity}
 use Rattle.rings.specs.Events.{eventsIn}
 use Rattle.state.specs.declared.Capacities.{Capacities}
-use Rattle.state.specs.declared.CoreWords.{CoreWords}
 use Rattle.state.specs.declared.Sched.{Sched}
-use Rattle.state.specs.State.{noTicks, noPos, laneStart}
+use Rattle.state.specs.State.{othersIdle, noTicks, noPos, laneStart}
 use Rattle.checks.specs.Check.{checkMeant}
-
-abbrev idleWords : CoreWords
-idleWords = record { kind = 0; tid = 0; count = 0 }
 
 -- 01: "0 counts as 1"
 unfoldable pub coreCount : ℕ → ℕ
@@ -61,16 +57,7 @@ firstSched c n k =
       now = record { 0 = 0 };
       «context_switches» = 0;
       closed = false;
-      states = record {
-        c0 = record { kind = 2; tid = 0; count = 0 };
-        c1 = idleWords;
-        c2 = idleWords;
-        c3 = idleWords;
-        c4 = idleWords;
-        c5 = idleWords;
-        c6 = idleWords;
-        c7 = idleWords;
-      };
+      states = othersIdle (record { kind = 2; tid = 0; count = 0 });
       exits = replicate 8 false;
       blocks = replicate 8 false;
       yields = replicate 8 false;

@@ -14,8 +14,8 @@ use settings::SchedConfig;
 use settings::numbers::is_beyond;
 use state::Capacities;
 use state::CoreWords;
-use state::Eight;
 use state::Sched;
+use state::others_idle;
 ghost use mathlib.Core.Path.{_≡_};
 ghost use mathlib.Core.Bool.{_||_};
 ghost use mathlib.Core.List.{[], _∷_, _++_};
@@ -141,21 +141,7 @@ fn first_sched(config: SchedConfig, cores: u32, capacities: Capacities) -> Sched
         tid: 0,
         count: 0,
     };
-    let idle = CoreWords {
-        kind: 0,
-        tid: 0,
-        count: 0,
-    };
-    let states = Eight {
-        c0: running,
-        c1: idle,
-        c2: idle,
-        c3: idle,
-        c4: idle,
-        c5: idle,
-        c6: idle,
-        c7: idle,
-    };
+    let states = others_idle(running);
     Sched {
         config: config,
         capacities: capacities,

@@ -1,6 +1,6 @@
 -- The definition alone: where every core keeps its thread, the six phases add 1 to each slice and do nothing else.
 use Prim.Native.Nat.{ℕ, suc}
-use mathlib.Core.Path.{_≡_, refl, sym, subst}
+use mathlib.Core.Path.{_≡_, refl, sym, ap, subst}
 use mathlib.Core.Bool.{Bool, true, false, _&&_}
 use mathlib.Core.List.{List, [], _∷_}
 use lib.Dec.{leb}
@@ -9,6 +9,7 @@ use Rattle.model.specs.Types.{Policy, Off, Fifo, RoundRobin, Priority, CoreStat
 use Rattle.model.specs.Phases.{Rules, Pass, Phase, ascend, andThen, withState, unmoved, sliced, switchedIn, phase2, vacate, phase3, filled, phase4, quantumOf, quantumOver, handOver, phase5, phase6, phases1To4, decide, isPreemptive}
 use Rattle.model.specs.Calls.{slicedAll}
 use Rattle.model.proofs.PhaseLaws.{not-both}
+use Rattle.model.proofs.Invariants.{phase6-rests}
 use Rattle.model.proofs.LoopLaws.{ascend-phase1}
 use Rattle.model.proofs.Bounded.{AllL}
 use Rattle.quiet.specs.Quiet.{calmIn, calm, isPriority}
@@ -81,13 +82,6 @@ all-of P Q f (c ∷ cs) a = (f c (a .0), all-of P Q f cs (a .1))
 
 ---- all six phases
 
-phase6-rests : (o : Policy) (k : Rules) (p : Pass) → isPriority o ≡ false → phase6 o k p ≡ p
-unfolding phase6
-phase6-rests Off k p h = refl
-phase6-rests Fifo k p h = refl
-phase6-rests RoundRobin k p h = refl
-phase6-rests Priority k p h = absurd (not-both true refl h)
-
 pub decide-calm :
     (k : Rules) (cs : List Core) (q : List ℕ) → isPriority (k .policy) ≡ false → AllL (λ (c : Core). calm (isPreemptive (k .policy)) (k .quantum) c ≡ true) cs
     → decide k cs q ≡ still (slicedAll cs) q
@@ -95,4 +89,4 @@ unfolding decide phases1To4
 decide-calm k cs q h a =
     let r = calms-all k cs a in
     let rest : (f : Phase) → ((c : Core) → Calms k c → Rests f c) → andThen (still (slicedAll cs) q) f ≡ still (slicedAll cs) q = λ f g. then-rests f (slicedAll cs) q (all-of (Calms k) (Rests f) g (slicedAll cs) r) in
-    rw (ascend-phase1 0 cs q, rest phase2 (λ c m. m .two), rest phase3 (λ c m. m .three), rest (phase4 k) (λ c m. m .four), rest (phase5 k) (λ c m. m .five)) (phase6-rests (k .policy) k _ h)
+    rw (ascend-phase1 0 cs q, rest phase2 (λ c m. m .two), rest phase3 (λ c m. m .three), rest (phase4 k) (λ c m. m .four), rest (phase5 k) (λ c m. m .five)) (phase6-rests (k .policy) k _ (λ e. not-both (isPriority (k .policy)) (ap isPriority e) h))

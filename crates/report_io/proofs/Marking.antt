@@ -20,9 +20,6 @@ use Rattle.report_io.specs.Marks.{retiredLine, retiredLines, marksAfter,
 use Rattle.report_io.specs.Blocks.{Within, between}
 use Rattle.report_io.proofs.Standing.{drop-take, between-length}
 
-pub never : {A : Type 0} → false ≡ true → A
-never e = let z : _≡_ {A = ℕ} 0 1 = cc e in absurd (omega arith)
-
 ---- one line
 
 ten : (l : List ℕ) → length l ≡ 10 → l ≡ take 8 l ++ (getD l 8 0 ∷ getD l 9 0 ∷ [])

@@ -21,8 +21,8 @@ use Rattle.report_io.specs.declared.Place.{Place}
 use Rattle.report_io.specs.declared.Upcoming.{Upcoming}
 use Rattle.report_io.specs.Marks.{retiredLines, marksAfter, noMarks, markedBy, markedReport, placeAfter, LinesAhead, MarkedWith}
 use Rattle.report_io.specs.Blocks.{Roomy, ended, noLine, lastTurn, standing, Standing, turnAhead, NextLine, pendingText, printedAs, writtenAs, heldBack, takesLines, Passed}
-use Rattle.report_io.proofs.Standing.{between-front, apart}
-use Rattle.report_io.proofs.Marking.{never}
+use Rattle.report_io.proofs.Standing.{between-front}
+use Rattle.model.proofs.PhaseLaws.{not-both}
 
 ---- a text put into the report's block
 
@@ -159,7 +159,7 @@ module _ (u : Upcoming) (x : Next) (b b1 : List ℕ) (after p : Place) (roomy : 
         ahead = refl;
         text = ap (λ (q : Place). pendingText q b1) e ∙ text-is;
         turn = turn ∙ sym (rw (done, f));
-        over = λ g. apart (p .«all_written» && takesLines (x .report .stage)) (ap (λ (a : Bool). a && takesLines (x .report .stage)) (sym done) ∙ g) f;
+        over = λ g. absurd (not-both (p .«all_written» && takesLines (x .report .stage)) (ap (λ (a : Bool). a && takesLines (x .report .stage)) (sym done) ∙ g) f);
         on = subst (λ (n : ℕ). u .place .turn < n) (sym turn) less;
       }
 
@@ -216,8 +216,8 @@ pub few-lines : (g : Stage) (n : ℕ) → takesLines g ≡ true → Few g n → 
 unfolding takesLines
 few-lines StageCases.Heads n e h = h
 few-lines StageCases.Calls n e h = h
-few-lines StageCases.Ended n e h = never e
-few-lines StageCases.Over n e h = never e
+few-lines StageCases.Ended n e h = absurd (not-both false e refl)
+few-lines StageCases.Over n e h = absurd (not-both false e refl)
 
 -- behind the lines that were taken together
 module _ (r : Report) (p : Place) (b : List ℕ) (a : Ahead) (l : LinesAhead r p b a) where

@@ -11,6 +11,7 @@ use borrow.Rule.Slice.PartMut.{midOf, putMid, mid-len, take-put, drop-put}
 use lib.Dec.{leb, ltb, eqb}
 use lib.ListN.{length, take, drop, getD, set, length-append, length-take, length-drop, take-append-drop}
 use lib.Seq.{take-all, take-nil, take-take, take-suc, take-at, take-append-le, drop-cons, drop-drop, drop-append-add, length-take-le, getD-drop, getD-append-add, set-at}
+use Rattle.model.proofs.PhaseLaws.{not-both}
 use Rattle.text.specs.Lines.{onto, cut, lineOf}
 use Rattle.script.specs.Report as Definition
 use Rattle.script.proofs.Streams.{too-long}
@@ -132,9 +133,6 @@ stands-more at end b b' r f =
     sym (take-append-drop (end - at) (take r b')) ∙
     ap (λ (l : List ℕ). l ++ drop (end - at) (take r b')) (take-take (end - at) r b' (f .more) ∙ f .rest)
 
-pub apart : {A : Type 0} (t : Bool) → t ≡ true → t ≡ false → A
-apart t e f = let z : _≡_ {A = ℕ} 0 1 = cc in absurd (omega arith)
-
 module _ (p : Place) where
   asks-not : p .«all_read» ≡ true → asks p ≡ false
   unfolding asks
@@ -169,7 +167,7 @@ module _ (p : Place) (b : List ℕ) (roomy : Roomy p) where
   }
 
   pub filled-read : p .«all_read» ≡ true → Filled p b b p
-  filled-read e = unasked (asks-not p e) (λ f. apart (p .«all_read») e f)
+  filled-read e = unasked (asks-not p e) (λ f. absurd (not-both (p .«all_read») e f))
 
   pub filled-enough : 256 < p .end - p .at → Filled p b b p
   filled-enough h = unasked (asks-enough p h) (λ f. h)
@@ -180,7 +178,7 @@ module _ (p : Place) (b : List ℕ) (roomy : Roomy p) where
     roomy = record { within = record { begins = omega arith; ends = f .within; pending = roomy .within .pending; turns = roomy .within .turns }; room = roomy .room };
     more = drop (p .end - p .at) (take r b');
     stands = stands-more (p .at) (p .end) b b' r f;
-    unasked = λ g. apart (asks p) (asks-more p e h) g;
+    unasked = λ g. absurd (not-both (asks p) (asks-more p e h) g);
     behind = f .behind;
     read = sym (ap (λ (t : Bool). cond t (ltb r 65_536) (p .«all_read»)) (asks-more p e h));
     enough = λ g. omega (arith, ltb-false r 65_536 g);

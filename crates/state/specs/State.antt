@@ -41,6 +41,12 @@ stateIn w = stateFrom (w .kind) (w .tid) (w .count)
 abbrev pub statesOf : Eight → List Program.CoreState
 statesOf e = stateIn (e .c0) ∷ stateIn (e .c1) ∷ stateIn (e .c2) ∷ stateIn (e .c3) ∷ stateIn (e .c4) ∷ stateIn (e .c5) ∷ stateIn (e .c6) ∷ stateIn (e .c7) ∷ []
 
+abbrev idleWords : CoreWords
+idleWords = record { kind = 0; tid = 0; count = 0 }
+
+abbrev pub othersIdle : CoreWords → Eight
+othersIdle w = record { c0 = w; c1 = idleWords; c2 = idleWords; c3 = idleWords; c4 = idleWords; c5 = idleWords; c6 = idleWords; c7 = idleWords }
+
 abbrev pub noTicks : Counters.CoreTicks
 noTicks = record { busy = 0; switching = 0; idle = 0 }
 

@@ -9,7 +9,7 @@ use settings::SchedConfig;
 ghost use mathlib.Core.Path.{_≡_};
 ghost use lib.ListN.{getD};
 ghost use Rattle.model.specs.declared.CoreState.the-variants;
-ghost use Rattle.state.specs.State.{stateIn, statesOf};
+ghost use Rattle.state.specs.State.{stateIn, statesOf, othersIdle};
 
 // A core state in three words: idle, switching or running by `kind`, the thread, and its `left` or `slice`. A copy of an enum moves the bytes behind its tag
 // one by one, and the state is copied in each call.
@@ -130,6 +130,27 @@ pub fn pack(a: [CoreState; 8]) -> Eight
         c5: c5,
         c6: c6,
         c7: c7,
+    }
+}
+
+// The first core as given, the others idle.
+pub fn others_idle(first: CoreWords) -> Eight
+    ensures { λ r. ⌜ r ≡ othersIdle first ⌝ }
+{
+    let idle = CoreWords {
+        kind: 0,
+        tid: 0,
+        count: 0,
+    };
+    Eight {
+        c0: first,
+        c1: idle,
+        c2: idle,
+        c3: idle,
+        c4: idle,
+        c5: idle,
+        c6: idle,
+        c7: idle,
     }
 }
 

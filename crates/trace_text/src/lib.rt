@@ -1,4 +1,3 @@
-// A trace's texts put into lent buffers, and what each call answers, written as lines.
+// A trace's texts put into lent buffers.
 // No contract can say what is written; those here keep the positions within the buffers.
-pub mod answers;
 pub mod out;

@@ -1,17 +1,18 @@
 -- `decide_one::decide_one` meets its contract. Assumes nothing.
 use borrow.Author.Needs.{needs}
 use native.Mathlib.Omega.{arith}
-use mathlib.Core.Path.{refl, _∙_}
+use mathlib.Core.Path.{refl, sym, _∙_}
 use mathlib.Core.Bool.{false}
 use lib.ListN.{take, getD}
 use denote.Ref.{now}
 use Rattle.settings.specs.Reading.{policyMeant}
+use Rattle.model.proofs.Invariants.{phase6-rests}
 use Rattle.queue.specs.Words.{movesIn}
 use Rattle.queue.proofs.Frames.{appended-both, no-longer-both}
 use Rattle.turns.specs.Turns.{rulesOf}
 use Rattle.turns.proofs.Steps.{besides-same, phase1-turn}
 use Rattle.decide.proofs.Whole.{all-six}
-use Rattle.decide_one.proofs.OneCore.{one-turn, no-phase6}
+use Rattle.decide_one.proofs.OneCore.{one-turn}
 use Rattle.decide_one.proofs.decide_one.Statement.{statement}
 use Rattle.decide_one.proofs.decide_one.Tie as tie
 
@@ -72,7 +73,7 @@ returns c =
     let e3 = one-turn _ (s .result) ex bl yi pr _ _ (l .result) ex' bl' yi' pr _ _ (l .ensures .1 .0 .0) (l .ensures .1 .0 .1) (l .ensures .1 .0 .2) (besides-same pr 0) (l .ensures .0 (getD pr 0 false)) in
     let e4 = one-turn _ (l .result) ex' bl' yi' pr _ _ (f .result) ex' bl' yi' pr' _ _ (besides-same ex' 0) (besides-same bl' 0) (besides-same yi' 0) (f .ensures .1 .0) (f .ensures .0 (a .quantum) (getD ex' 0 false) (getD bl' 0 false) (getD yi' 0 false)) in
     let e5 = one-turn _ (f .result) ex' bl' yi' pr' _ _ (h .result) ex' bl' yi'' pr'' _ _ (besides-same ex' 0) (besides-same bl' 0) (h .ensures .1 .0 .0) (h .ensures .1 .0 .1) (h .ensures .0 (getD ex' 0 false) (getD bl' 0 false)) in (
-      λ cs. all-six k 1 _ q m _ _ _ _ _ _ refl (e1 cs .done) (e2 cs .done) (e3 cs .done) (e4 cs .done) (e5 cs .done) (no-phase6 (policyMeant (a .policy)) k _ (c .before .before .before .before .before .before .before .before .before .before .before .before .before .before .before .before .before .before .before .before .before .before .before .before .before .before .before .before .before .before .before .before .before .before .before .before .before .before .before .before .before .before .pre .0 .0)),
+      λ cs. all-six k 1 _ q m _ _ _ _ _ _ refl (e1 cs .done) (e2 cs .done) (e3 cs .done) (e4 cs .done) (e5 cs .done) (sym (phase6-rests (policyMeant (a .policy)) k _ (c .before .before .before .before .before .before .before .before .before .before .before .before .before .before .before .before .before .before .before .before .before .before .before .before .before .before .before .before .before .before .before .before .before .before .before .before .before .before .before .before .before .before .pre .0 .0))),
       (
         λ cs j n. e5 cs .rest j n ∙ e4 cs .rest j n ∙ e3 cs .rest j n ∙ e2 cs .rest j n ∙ e1 cs .rest j n,
         (

@@ -1,8 +1,9 @@
 use borrow.Author.Needs.{needs}
 use native.Mathlib.Omega.{arith}
-use mathlib.Core.Path.{sym, _∙_}
+use mathlib.Core.Path.{refl, sym, _∙_}
 use Rattle.text.proofs.Places.{same-eq}
-use Rattle.report_io.proofs.Marking.{never}
+use mathlib.Core.Bool.{false}
+use Rattle.model.proofs.PhaseLaws.{not-both}
 use Rattle.report_io.proofs.input.is_tick.Statement.{statement}
 use Rattle.report_io.proofs.input.is_tick.Tie as tie
 use Rattle.report_io.proofs.input.is_tick.Reads as reads
@@ -15,10 +16,10 @@ sub-if1 : tie.Need-sub-if1
 sub-if1 c = search needs
 
 returns : tie.Need-returns
-returns c = λ e. never e
+returns c = λ e. absurd (not-both false e refl)
 
 returns-2 : tie.Need-returns-2
-returns-2 c = λ e. never e
+returns-2 c = λ e. absurd (not-both false e refl)
 
 enum-told : tie.Need-enum-told
 enum-told c = search needs
@@ -48,7 +49,7 @@ enum-told-4 : tie.Need-enum-told-4
 enum-told-4 c = search needs
 
 returns-3 : tie.Need-returns-3
-returns-3 c = λ e. never e
+returns-3 c = λ e. absurd (not-both false e refl)
 
 returns-4 : tie.Need-returns-4
 returns-4 c =
@@ -56,10 +57,10 @@ returns-4 c =
     λ e. record { enough = c .before .before .before .before .before .before .before .if1 .left; calls = c .before .before .before .enum-told2 .given .1; few = c .before .before .before .before .before .if2 .left; line = same-eq _ _ (sym (t .ensures) ∙ e) }
 
 returns-5 : tie.Need-returns-5
-returns-5 c = λ e. never e
+returns-5 c = λ e. absurd (not-both false e refl)
 
 returns-6 : tie.Need-returns-6
-returns-6 c = λ e. never e
+returns-6 c = λ e. absurd (not-both false e refl)
 
 pub is-tick-spec : {M : Type 1} → statement M
 is-tick-spec =

@@ -1,10 +1,5 @@
-// What the calls answer, as lines.
-use crate::out::least;
-use crate::out::put_number;
-use crate::out::put_reason;
-use crate::out::put_spaced;
-use crate::out::put_text;
-use crate::out::put_tid;
+// What the calls answer, written as lines of a trace.
+// No contract can say what is written; those here keep the positions within the buffers.
 use libc::STDOUT_FILENO;
 use model::CallAnswer;
 use model::JoinOutcome;
@@ -15,6 +10,12 @@ use sched::Outcome;
 use settings::Refusal;
 use switches::SwitchList;
 use switches::switch_of;
+use trace_text::out::least;
+use trace_text::out::put_number;
+use trace_text::out::put_reason;
+use trace_text::out::put_spaced;
+use trace_text::out::put_text;
+use trace_text::out::put_tid;
 ghost use Prim.Native.Nat.{_≤_};
 ghost use lib.ListN.{length};
 

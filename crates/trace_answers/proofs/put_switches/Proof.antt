@@ -2,8 +2,8 @@ use borrow.Author.Needs.{needs}
 use Prim.Native.Nat.{_≤_, _-_}
 use mathlib.Core.Path.{_≡_}
 use lib.ListN.{length}
-use Rattle.trace_text.proofs.answers.put_switches.Statement.{statement}
-use Rattle.trace_text.proofs.answers.put_switches.Tie as tie
+use Rattle.trace_answers.proofs.put_switches.Statement.{statement}
+use Rattle.trace_answers.proofs.put_switches.Tie as tie
 
 abbrev Inv-loop : tie.InvT-loop
 Inv-loop out₀ at entries n to₀ i₀ out to i = (to ≤ length out) × (length out ≡ length out₀) × (i ≤ n)
