@@ -1,14 +1,5 @@
+pub mod At
 pub mod Converting
 pub mod Locals
 pub mod Memory
-pub mod Answering
-pub mod Spawning
-pub mod Exiting
-pub mod Joining
-pub mod Retiring
-pub mod Yielding
-pub mod Prioritising
-pub mod Timing
-pub mod Forcing
-pub mod Ticking
-pub mod Closing
+pub mod Types

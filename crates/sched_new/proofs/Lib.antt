@@ -1,2 +1,2 @@
-pub mod Parts
-pub mod Finishing
+pub mod At
+pub mod Types

@@ -1,2 +1,3 @@
-pub mod Deciding
-pub mod Lending
+pub mod At
+pub mod Types
+pub mod Updates
