@@ -32,7 +32,7 @@ use Rattle.model.specs.declared.ThreadInfo.{ThreadInfo}
 use Rattle.model.proofs.ThreadInfo as T
 use Rattle.walkkit.proofs.Again.{at-list, SharedAgain, reshares, unshares}
 use Rattle.walkkit.proofs.Lent.{framed-call}
-use Rattle.callkit.proofs.Returned.{Returns}
+use Rattle.walkkit.proofs.Returned.{Returns}
 use Rattle.sched.proofs.Memory.{At, Lists, Long, slice, Token, Slice, Last, spends, Whole, Gone}
 use Rattle.state.specs.declared.Sched.{Sched}
 use Rattle.state.specs.Done.{Done}

@@ -33,7 +33,7 @@ use Rattle.new_plan.specs.declared.Created.{Created}
 use Rattle.new_plan.specs.Made.{NewDone}
 use Rattle.walkkit.proofs.Again.{at-list, LentAgain, SharedAgain, relends, regains, reshares, unshares}
 use Rattle.walkkit.proofs.Lent.{framed-call}
-use Rattle.callkit.proofs.Returned.{Returns}
+use Rattle.walkkit.proofs.Returned.{Returns}
 use Rattle.settings.proofs.SchedConfig as F
 use Rattle.settings.proofs.SchedConfig.Laws as F′
 use Rattle.state.proofs.Capacities as P

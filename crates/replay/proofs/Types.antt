@@ -6,7 +6,7 @@ use ghost.Atoms.{Atoms}
 use types.Kit.{Given}
 use Rattle.replay.proofs.Replayed as Z
 use Rattle.replay.proofs.Replayed.Laws as Z′
-use Rattle.symexec.proofs.ByValue.{ByVal, struct-by}
+use Rattle.walkkit.proofs.ByValue.{ByVal, struct-by}
 
 module _ {M : Type 1} (𝓤 : URA M) (H : Heap 𝓤) (A : Atoms 𝓤) (W : Given 𝓤 H A) where
   abbrev pub replayed : ByVal 𝓤 H A

@@ -26,7 +26,7 @@ use ghost.Atoms.{Atoms}
 use types.Kit.{Given, Item, Post, anyQ, post, ⋆, Goal, runs, frees, aim, Seq, Step, step, ‵, raw, _⊛_, mean, pop, _$_, _∵_, !, qed, by, move, use1, split, join, frame, done}
 use types.Run.{Opd, Below, again, loops, first, blocks, stays, leaves-loop}
 use borrow.Author.Tests.{lt-ltb, le-ltb}
-use Rattle.sched.proofs.Locals.{Others}
+use Rattle.walkkit.proofs.Locals.{Others}
 
 module _ {M : Type 1} {𝓤 : URA M} {H : Heap 𝓤} {A : Atoms 𝓤} {K : Type 0} {W : Given 𝓤 H A} where
   counts : K → (𝓣 : Tables 𝓤 H) (n : ℕ) (Ctx : ℕ → List (Item 𝓤)) {E : Env 𝓤 H} {b : Body} {q : Post 𝓤 H}

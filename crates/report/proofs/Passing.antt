@@ -40,7 +40,7 @@ use Rattle.report_io.specs.Blocks as Blocks
 use Rattle.report_io.specs.Blocks.{Roomy, Printable}
 use Rattle.walkkit.proofs.Again.{at-list, LentAgain, SharedAgain, relends, regains, reshares, unshares}
 use Rattle.walkkit.proofs.Lent.{Gives, framed-call, call-value}
-use Rattle.callkit.proofs.Returned.{Returns}
+use Rattle.walkkit.proofs.Returned.{Returns}
 use Rattle.model.proofs.ThreadInfo as T
 use Rattle.feed_plan.proofs.Report as P
 use Rattle.feed_plan.proofs.Report.Laws as P′

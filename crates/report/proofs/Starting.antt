@@ -42,7 +42,7 @@ use Rattle.report.specs.Running.{Runnable, Finished}
 use Rattle.walkkit.proofs.Again.{at-list}
 use Rattle.walkkit.proofs.Lent.{framed-call}
 use Rattle.walkkit.proofs.Local.{array-in, array-out}
-use Rattle.callkit.proofs.Returned.{Returns}
+use Rattle.walkkit.proofs.Returned.{Returns}
 use Rattle.sched.proofs.Memory.{At, Lists, slice, Token, Slice, Last}
 use Rattle.model.proofs.ThreadInfo as T
 use Rattle.model.proofs.ThreadInfo.Laws as T′

@@ -1,4 +1,4 @@
--- `apply-at`: the theorem of `apply` at slices that are variables. Callers cite it (`calls-citing` of `symexec`), so that what it asks and says is written once, and antt compares it with no call whose slices are spelled out.
+-- `apply-at`: the theorem of `apply` at slices that are variables. Callers cite it (`calls-citing` of `walkkit`), so that what it asks and says is written once, and antt compares it with no call whose slices are spelled out.
 use mathlib.Core.Path.{_≡_}
 use Prim.Native.Nat.{ℕ}
 use mathlib.Core.List.{[], _∷_, List}
@@ -23,7 +23,7 @@ use Rattle.sched.specs.Meant.{callMeant, outcomeMeant}
 use Rattle.model.proofs.ThreadInfo as T
 use Rattle.sched.proofs.apply as apply
 use Rattle.sched.proofs.apply.Symbol as apply-def
-use Rattle.symexec.proofs.Loans.{Slice, Elements, Arg, val, lend, lfts, shares, denots, valss, Cited}
+use Rattle.walkkit.proofs.Loans.{Slice, Elements, Arg, val, lend, lfts, shares, denots, valss, Cited}
 use Rattle.value_types.proofs.Types.{sched}
 use Rattle.sched.proofs.Types.{call, applied}
 

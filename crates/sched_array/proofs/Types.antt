@@ -8,7 +8,7 @@ use Rattle.sched_array.proofs.Stepped as S
 use Rattle.sched_array.proofs.Stepped.Laws as S′
 use Rattle.sched_array.proofs.Started as C
 use Rattle.sched_array.proofs.Started.Laws as C′
-use Rattle.symexec.proofs.ByValue.{ByVal, struct-by}
+use Rattle.walkkit.proofs.ByValue.{ByVal, struct-by}
 
 module _ {M : Type 1} (𝓤 : URA M) (H : Heap 𝓤) (A : Atoms 𝓤) (W : Given 𝓤 H A) where
   abbrev pub stepped : ByVal 𝓤 H A

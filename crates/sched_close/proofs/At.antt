@@ -1,4 +1,4 @@
--- `close-at`: the theorem of `close` at slices that are variables. Callers cite it (`calls-citing` of `symexec`), so that what it asks and says is written once, and antt compares it with no call whose slices are spelled out.
+-- `close-at`: the theorem of `close` at slices that are variables. Callers cite it (`calls-citing` of `walkkit`), so that what it asks and says is written once, and antt compares it with no call whose slices are spelled out.
 use mathlib.Core.Path.{_≡_}
 use Prim.Native.Nat.{ℕ}
 use mathlib.Core.List.{[], _∷_, List}
@@ -25,7 +25,7 @@ use Rattle.sched_marks.specs.declared.Answered.{Answered}
 use Rattle.model.proofs.ThreadInfo as T
 use Rattle.sched_close.proofs.close as close
 use Rattle.sched_close.proofs.close.Symbol as close-def
-use Rattle.symexec.proofs.Loans.{Slice, Elements, Arg, val, lend, lfts, shares, denots, valss, Cited}
+use Rattle.walkkit.proofs.Loans.{Slice, Elements, Arg, val, lend, lfts, shares, denots, valss, Cited}
 use Rattle.value_types.proofs.Types.{sched, coreId, answered}
 
 -- what `close` says

@@ -1,4 +1,4 @@
--- `exit-at`: the theorem of `exit` at slices that are variables. Callers cite it (`calls-citing` of `symexec`), so that what it asks and says is written once, and antt compares it with no call whose slices are spelled out.
+-- `exit-at`: the theorem of `exit` at slices that are variables. Callers cite it (`calls-citing` of `walkkit`), so that what it asks and says is written once, and antt compares it with no call whose slices are spelled out.
 use mathlib.Core.Path.{_≡_}
 use Prim.Native.Nat.{ℕ}
 use mathlib.Core.List.{[], _∷_, List}
@@ -26,7 +26,7 @@ use Rattle.sched_exit.specs.Asked.{ExitAsked}
 use Rattle.model.proofs.ThreadInfo as T
 use Rattle.sched_exit.proofs.exit as exit
 use Rattle.sched_exit.proofs.exit.Symbol as exit-def
-use Rattle.symexec.proofs.Loans.{Slice, Elements, Arg, val, lend, lfts, shares, denots, valss, Cited}
+use Rattle.walkkit.proofs.Loans.{Slice, Elements, Arg, val, lend, lfts, shares, denots, valss, Cited}
 use Rattle.value_types.proofs.Types.{sched, coreId, answered}
 
 -- what `exit` says

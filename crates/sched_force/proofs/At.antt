@@ -1,4 +1,4 @@
--- `force-switch-at`: the theorem of `force_switch` at slices that are variables. Callers cite it (`calls-citing` of `symexec`), so that what it asks and says is written once, and antt compares it with no call whose slices are spelled out.
+-- `force-switch-at`: the theorem of `force_switch` at slices that are variables. Callers cite it (`calls-citing` of `walkkit`), so that what it asks and says is written once, and antt compares it with no call whose slices are spelled out.
 use mathlib.Core.Path.{_≡_}
 use Prim.Native.Nat.{ℕ}
 use mathlib.Core.List.{[], _∷_, List}
@@ -25,7 +25,7 @@ use Rattle.state.specs.Done.{Done}
 use Rattle.model.proofs.ThreadInfo as T
 use Rattle.sched_force.proofs.force_switch as force-switch
 use Rattle.sched_force.proofs.force_switch.Symbol as force-switch-def
-use Rattle.symexec.proofs.Loans.{Slice, Elements, Arg, val, lend, share, lfts, shares, denots, valss, Cited}
+use Rattle.walkkit.proofs.Loans.{Slice, Elements, Arg, val, lend, share, lfts, shares, denots, valss, Cited}
 use Rattle.value_types.proofs.Types.{sched, coreId, optionTid, ticked}
 
 module _ {M : Type 1} (𝓤 : URA M) (H : Heap 𝓤) (A : Atoms 𝓤) (W : Given 𝓤 H A) (mem : Memory → SProp 𝓤) (run : Routine → Fun 𝓤) (𝓣 : Tables 𝓤 H) (met : Meets 𝓤 H A force-switch.signature (𝓣 .C force-switch-def.name) (force-switch.spec 𝓤 H A mem run)) where

@@ -1,4 +1,4 @@
--- `new-at`: the theorem of `new` at slices that are variables. Callers cite it (`calls-citing` of `symexec`), so that what it asks and says is written once, and antt compares it with no call whose slices are spelled out.
+-- `new-at`: the theorem of `new` at slices that are variables. Callers cite it (`calls-citing` of `walkkit`), so that what it asks and says is written once, and antt compares it with no call whose slices are spelled out.
 use mathlib.Core.Path.{_≡_}
 use Prim.Native.Nat.{ℕ}
 use mathlib.Core.List.{[], _∷_, List}
@@ -21,7 +21,7 @@ use Rattle.new_plan.specs.Made.{NewDone}
 use Rattle.model.proofs.ThreadInfo as T
 use Rattle.sched_new.proofs.new as new
 use Rattle.sched_new.proofs.new.Symbol as new-def
-use Rattle.symexec.proofs.Loans.{Slice, Elements, Arg, val, lend, share, lfts, shares, denots, valss, Cited, asks-nothing}
+use Rattle.walkkit.proofs.Loans.{Slice, Elements, Arg, val, lend, share, lfts, shares, denots, valss, Cited, asks-nothing}
 use Rattle.value_types.proofs.Types.{number}
 use Rattle.sched_new.proofs.Types.{config, capacities, created}
 

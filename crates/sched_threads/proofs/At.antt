@@ -1,4 +1,4 @@
--- `spawn-at`, `join-at`, `yield-now-at`, `set-priority-at`: the theorem of each call at slices that are variables. Callers cite them (`calls-citing` of `symexec`), so that what each asks and says is written once, and antt compares it with no call whose slices are spelled out.
+-- `spawn-at`, `join-at`, `yield-now-at`, `set-priority-at`: the theorem of each call at slices that are variables. Callers cite them (`calls-citing` of `walkkit`), so that what each asks and says is written once, and antt compares it with no call whose slices are spelled out.
 use mathlib.Core.Path.{_≡_}
 use Prim.Native.Nat.{ℕ}
 use mathlib.Core.List.{[], _∷_, List}
@@ -35,7 +35,7 @@ use Rattle.sched_threads.proofs.yield_now as yield-now
 use Rattle.sched_threads.proofs.yield_now.Symbol as yield-now-def
 use Rattle.sched_threads.proofs.set_priority as set-priority
 use Rattle.sched_threads.proofs.set_priority.Symbol as set-priority-def
-use Rattle.symexec.proofs.Loans.{Slice, Elements, Arg, val, lend, lfts, shares, denots, valss, Cited}
+use Rattle.walkkit.proofs.Loans.{Slice, Elements, Arg, val, lend, lfts, shares, denots, valss, Cited}
 use Rattle.value_types.proofs.Types.{number, sched, coreId, optionTid, tid, answered}
 use Rattle.sched_threads.proofs.Types.{spawnAnswered, joinAnswered}
 

@@ -14,7 +14,7 @@ use Rattle.sched_threads.proofs.answers.JoinAnswered as T4
 use Rattle.sched_threads.proofs.answers.JoinAnswered.Laws as L4
 use Rattle.sched_threads.proofs.answers.SpawnAnswered as T5
 use Rattle.sched_threads.proofs.answers.SpawnAnswered.Laws as L5
-use Rattle.symexec.proofs.ByValue.{ByVal, struct-by}
+use Rattle.walkkit.proofs.ByValue.{ByVal, struct-by}
 
 module _ {M : Type 1} (𝓤 : URA M) (H : Heap 𝓤) (A : Atoms 𝓤) (W : Given 𝓤 H A) where
   abbrev pub decided : ByVal 𝓤 H A

@@ -1,4 +1,4 @@
--- `end-tick-at`: the theorem of `end_tick` at slices that are variables. Callers cite it (`calls-citing` of `symexec`), so that what it asks and says is written once, and antt compares it with no call whose slices are spelled out.
+-- `end-tick-at`: the theorem of `end_tick` at slices that are variables. Callers cite it (`calls-citing` of `walkkit`), so that what it asks and says is written once, and antt compares it with no call whose slices are spelled out.
 use mathlib.Core.Path.{_≡_}
 use Prim.Native.Nat.{ℕ}
 use mathlib.Core.List.{[], _∷_, List}
@@ -23,7 +23,7 @@ use Rattle.state.specs.Done.{Done}
 use Rattle.model.proofs.ThreadInfo as T
 use Rattle.sched_tick.proofs.end_tick as end-tick
 use Rattle.sched_tick.proofs.end_tick.Symbol as end-tick-def
-use Rattle.symexec.proofs.Loans.{Slice, Elements, Arg, val, lend, share, lfts, shares, denots, valss, Cited}
+use Rattle.walkkit.proofs.Loans.{Slice, Elements, Arg, val, lend, share, lfts, shares, denots, valss, Cited}
 use Rattle.value_types.proofs.Types.{sched, ticked}
 
 module _ {M : Type 1} (𝓤 : URA M) (H : Heap 𝓤) (A : Atoms 𝓤) (W : Given 𝓤 H A) (mem : Memory → SProp 𝓤) (run : Routine → Fun 𝓤) (𝓣 : Tables 𝓤 H) (met : Meets 𝓤 H A end-tick.signature (𝓣 .C end-tick-def.name) (end-tick.spec 𝓤 H A mem run)) where

@@ -31,7 +31,7 @@ use Rattle.model.specs.declared.ThreadInfo.{ThreadInfo}
 use Rattle.script.specs.Report.{finish}
 use Rattle.walkkit.proofs.Again.{at-list, LentAgain, SharedAgain, relends, regains, reshares, unshares}
 use Rattle.walkkit.proofs.Lent.{framed-call}
-use Rattle.callkit.proofs.Returned.{Returns}
+use Rattle.walkkit.proofs.Returned.{Returns}
 use Rattle.model.proofs.ThreadInfo as T
 use Rattle.sched.proofs.Memory.{At}
 use Rattle.feed_plan.specs.Meant.{reportMeant, ReportValid}

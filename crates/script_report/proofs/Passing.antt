@@ -36,7 +36,7 @@ use Rattle.report_plan.specs.declared.Progress.{Progress}
 use Rattle.report_plan.specs.Running.{Begins, printedAs}
 use Rattle.walkkit.proofs.Again.{at-list}
 use Rattle.walkkit.proofs.Lent.{Gives, framed-call, call-value}
-use Rattle.callkit.proofs.Returned.{Returns}
+use Rattle.walkkit.proofs.Returned.{Returns}
 use Rattle.model.proofs.ThreadInfo as T
 use Rattle.rcfg.proofs.Written as R
 use Rattle.report_plan.proofs.Progress as P

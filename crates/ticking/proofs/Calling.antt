@@ -36,7 +36,7 @@ use Rattle.state.specs.Done as D
 use Rattle.tick_plan.specs.declared.Ticked.{Ticked}
 use Rattle.walkkit.proofs.Again.{at-list, LentAgain, relends, regains}
 use Rattle.walkkit.proofs.Lent.{framed-call}
-use Rattle.callkit.proofs.Returned.{Returns}
+use Rattle.walkkit.proofs.Returned.{Returns}
 use Rattle.model.proofs.ThreadInfo as T
 use Rattle.state.proofs.Sched as S
 use Rattle.state.proofs.Sched.Laws as S′

@@ -42,7 +42,7 @@ use Rattle.ticking.specs.Load.{LoadDone}
 use Rattle.walkkit.proofs.Again.{at-list}
 use Rattle.walkkit.proofs.Lent.{framed-call}
 use Rattle.walkkit.proofs.Local.{array-in, array-out}
-use Rattle.callkit.proofs.Returned.{Returns}
+use Rattle.walkkit.proofs.Returned.{Returns}
 use Rattle.sched.proofs.Memory.{At, Lists, Long, slice, Token, Slice, Last}
 use Rattle.settings.proofs.SchedConfig as F
 use Rattle.settings.proofs.SchedConfig.Laws as F′

@@ -36,7 +36,7 @@ use Rattle.ticking.specs.Turns.{TurnsDone, SpawnsDone}
 use Rattle.ticking.specs.Load.{due}
 use Rattle.walkkit.proofs.Again.{at-list}
 use Rattle.walkkit.proofs.Lent.{Gives, framed-call, call-value}
-use Rattle.callkit.proofs.Returned.{Returns}
+use Rattle.walkkit.proofs.Returned.{Returns}
 use Rattle.sched.proofs.Memory.{At, Lists, Long, Token}
 use Rattle.model.proofs.ThreadInfo as T
 use Rattle.state.proofs.Sched as S

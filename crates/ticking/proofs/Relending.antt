@@ -24,7 +24,7 @@ use denote.Slice.{sliceVal, MutSlice, ShrSlice, Room, finally}
 use Rattle.model.specs.declared.ThreadInfo.{ThreadInfo}
 use Rattle.model.proofs.ThreadInfo as T
 use Rattle.walkkit.proofs.Again.{at-list, LentAgain, SharedAgain, relends, regains, reshares, unshares}
-use Rattle.callkit.proofs.Returned.{Returns}
+use Rattle.walkkit.proofs.Returned.{Returns}
 use Rattle.sched.proofs.Memory.{At, Lists, Long, Token}
 
 -- the lists that a spawn may write

@@ -38,7 +38,7 @@ use Rattle.state.specs.Done.{Done}
 use Rattle.sched_threads.specs.declared.answers.SpawnAnswered.{SpawnAnswered}
 use Rattle.walkkit.proofs.Again.{at-list}
 use Rattle.walkkit.proofs.Lent.{framed-call}
-use Rattle.callkit.proofs.Returned.{Returns}
+use Rattle.walkkit.proofs.Returned.{Returns}
 use Rattle.sched.proofs.Memory.{At, Token}
 use Rattle.model.proofs.OptionTid as I
 use Rattle.model.proofs.OptionTid.Laws as I′

@@ -7,8 +7,8 @@ use mir.Syntax.{w32, w64}
 use prog.Wp.{Heap}
 use ghost.Atoms.{Atoms}
 use types.Kit.{Given}
-use Rattle.symexec.proofs.ByValue.{ByVal, struct-by, enum-by, array-by, uint-by, unit-by}
-use Rattle.symexec.proofs.Arrays.{LocalArray}
+use Rattle.walkkit.proofs.ByValue.{ByVal, struct-by, enum-by, array-by, uint-by, unit-by}
+use Rattle.walkkit.proofs.Arrays.{LocalArray}
 use Rattle.state.proofs.Sched as T0
 use Rattle.state.proofs.Sched.Laws as L0
 use Rattle.model.proofs.CoreId as T1

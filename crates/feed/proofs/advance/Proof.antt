@@ -41,7 +41,7 @@ use Rattle.feed_plan.specs.declared.Line.the-variants as Cases
 use Rattle.feed_plan.specs.declared.Next.{Next}
 use Rattle.feed_plan.specs.Feeding.{LineAsked}
 use Rattle.walkkit.proofs.Again.{at-list}
-use Rattle.callkit.proofs.Spelled.{fnBy}
+use Rattle.walkkit.proofs.Spelled.{fnBy}
 use Rattle.model.proofs.ThreadInfo as T
 use Rattle.feed_plan.proofs.Report as S
 use Rattle.feed_plan.proofs.Report.Laws as S′

@@ -42,8 +42,8 @@ use Rattle.feed_plan.specs.declared.Fed.{Fed}
 use Rattle.feed_plan.specs.Meant.{ReportValid}
 use Rattle.feed_plan.specs.Feeding.{FeedDone}
 use Rattle.walkkit.proofs.Again.{at-list}
-use Rattle.callkit.proofs.Returned.{Returns, calls-to}
-use Rattle.callkit.proofs.Spelled.{fnBy, Typed}
+use Rattle.walkkit.proofs.Returned.{Returns, calls-to}
+use Rattle.walkkit.proofs.Spelled.{fnBy, Typed}
 use Rattle.model.proofs.ThreadInfo as T
 use Rattle.feed_plan.proofs.Report as S
 use Rattle.feed_plan.proofs.Report.Laws as S′
@@ -53,7 +53,7 @@ use Rattle.feed_plan.proofs.Next as N
 use Rattle.feed_plan.proofs.Next.Laws as N′
 use Rattle.feed_plan.proofs.Fed as Y
 use Rattle.feed_plan.proofs.Fed.Laws as Y′
-use Rattle.sched.proofs.Locals.{allocs-all, frees-all}
+use Rattle.walkkit.proofs.Locals.{allocs-all, frees-all}
 use Rattle.sched.proofs.Memory.{At, Lists, Long, slice, Token, Slice, Last, Whole, Gone}
 use Rattle.feed.proofs.Ends.{rmach}
 use Rattle.feed.proofs.Reading as Reading

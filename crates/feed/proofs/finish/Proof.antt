@@ -44,14 +44,14 @@ use Rattle.feed_plan.specs.Meant.{reportMeant, ReportValid}
 use Rattle.feed_plan.specs.Steps.{recordsIn}
 use Rattle.walkkit.proofs.Again.{at-list}
 use Rattle.walkkit.proofs.Lent.{Gives, calls-by}
-use Rattle.callkit.proofs.Returned.{Returns, calls-to}
-use Rattle.callkit.proofs.Spelled.{fnBy, Typed}
+use Rattle.walkkit.proofs.Returned.{Returns, calls-to}
+use Rattle.walkkit.proofs.Spelled.{fnBy, Typed}
 use Rattle.model.proofs.ThreadInfo as T
 use Rattle.feed_plan.proofs.Report as S
 use Rattle.feed_plan.proofs.Report.Laws as S′
 use Rattle.record_reads.proofs.totals.Totals as N
 use Rattle.record_reads.proofs.totals.Totals.Laws as N′
-use Rattle.sched.proofs.Locals.{allocs-all, frees-all}
+use Rattle.walkkit.proofs.Locals.{allocs-all, frees-all}
 use Rattle.sched.proofs.Memory.{At, slice, Token, Slice, Last}
 use Rattle.feed.proofs.Ends.{rmach}
 use Rattle.feed.proofs.Parts.{Count, count-call}

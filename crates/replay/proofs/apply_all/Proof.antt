@@ -1,4 +1,4 @@
--- `replay::apply_all` meets its contract. It counts, lends and calls: `symexec` has its entry, its loop, its loans and its exit; what stands here is what each turn leaves, which slices each call takes, and what its contract says.
+-- `replay::apply_all` meets its contract. It counts, lends and calls: `walkkit` has its entry, its loop, its loans and its exit; what stands here is what each turn leaves, which slices each call takes, and what its contract says.
 use mathlib.Core.Path.{_≡_, refl, subst}
 use Prim.Native.Nat.{ℕ, _+_, _*_, _<_, _≤_}
 use native.Mathlib.Omega.{arith}
@@ -41,13 +41,13 @@ use Rattle.replay.proofs.sched_of.Met as state-thm
 use Rattle.sched.proofs.apply as applying
 use Rattle.sched.proofs.apply.Symbol as applying-def
 use Rattle.sched.proofs.apply.Met as applying-thm
-use Rattle.symexec.proofs.ByValue.{Known, known}
-use Rattle.symexec.proofs.Loops.{counts, next, not-done, all-done, count-small, next-fits}
-use Rattle.symexec.proofs.Loans.{Pass, value, lent, shown, lfts, shares, denots, valss, args, left-by, asks, free, calls-with, calls-citing}
+use Rattle.walkkit.proofs.ByValue.{Known, known}
+use Rattle.walkkit.proofs.Loops.{counts, next, not-done, all-done, count-small, next-fits}
+use Rattle.walkkit.proofs.Loans.{Pass, value, lent, shown, lfts, shares, denots, valss, args, left-by, asks, free, calls-with, calls-citing}
 use Rattle.value_types.proofs.Types.{word, sched}
 use Rattle.sched.proofs.Types.{call, applied}
 use Rattle.sched.proofs.At.{apply-at}
-use Rattle.symexec.proofs.Law.{Param, by, mut, shr, Sound, Fulls, first, entries-at, items-at, finish, function-meets}
+use Rattle.walkkit.proofs.Law.{Param, by, mut, shr, Sound, Fulls, first, entries-at, items-at, finish, function-meets}
 use Rattle.replay.proofs.apply_all.Key.{name as #replay·apply-all}
 use Rattle.replay.proofs.apply_all as f
 use Rattle.replay.proofs.apply_all.Statement as stated

@@ -1,4 +1,4 @@
--- `replay::replay` meets its contract. It only reads a length, lends and calls: `symexec` has its entry, its loans and its exit; what stands here is which slices each call takes, and what its contract says.
+-- `replay::replay` meets its contract. It only reads a length, lends and calls: `walkkit` has its entry, its loans and its exit; what stands here is which slices each call takes, and what its contract says.
 use mathlib.Core.Path.{_≡_, refl}
 use Prim.Native.Nat.{ℕ, _*_, _<_, _≤_}
 use mathlib.Core.List.{[], _∷_, List}
@@ -42,10 +42,10 @@ use Rattle.replay.proofs.apply_all.Met as applying-thm
 use Rattle.replay.proofs.replay_of as ending
 use Rattle.replay.proofs.replay_of.Symbol as ending-def
 use Rattle.replay.proofs.replay_of.Met as ending-thm
-use Rattle.symexec.proofs.ByValue.{known}
-use Rattle.symexec.proofs.Loans.{Pass, value, lent, shown, lfts, shares, denots, valss, args, left-by, asks, free, calls-with}
+use Rattle.walkkit.proofs.ByValue.{known}
+use Rattle.walkkit.proofs.Loans.{Pass, value, lent, shown, lfts, shares, denots, valss, args, left-by, asks, free, calls-with}
 use Rattle.value_types.proofs.Types.{word, number}
-use Rattle.symexec.proofs.Law.{Param, by, mut, shr, held, finish, function-meets}
+use Rattle.walkkit.proofs.Law.{Param, by, mut, shr, held, finish, function-meets}
 use Rattle.sched.proofs.Types.{applied}
 use Rattle.sched_new.proofs.Types.{config, capacities, created}
 use Rattle.replay.proofs.Types.{replayed}

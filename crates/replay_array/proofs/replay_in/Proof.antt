@@ -1,4 +1,4 @@
--- `replay_array::replay_in` meets its contract. The array of records in a local is lent to `replay` as a slice (`Arrays` of `symexec`); the rest is lent and passed on.
+-- `replay_array::replay_in` meets its contract. The array of records in a local is lent to `replay` as a slice (`Arrays` of `walkkit`); the rest is lent and passed on.
 use mathlib.Core.Path.{_≡_, refl, sym, subst}
 use Prim.Native.Nat.{ℕ}
 use mathlib.Core.Bool.{Bool, true, false}
@@ -30,10 +30,10 @@ use Rattle.replay_array.proofs.array_of.Symbol as array-def
 use Rattle.replay_array.proofs.array_of.Met as array-thm
 use Rattle.replay_array.proofs.ReplayedArray as Y
 use Rattle.replay_array.proofs.ReplayedArray.Laws as Y′
-use Rattle.symexec.proofs.ByValue.{ByVal, struct-by, Known, known}
-use Rattle.symexec.proofs.Loans.{Pass, value, lent, shown, lfts, shares, denots, valss, args, free, asks-nothing, calls-with}
-use Rattle.symexec.proofs.Law.{Param, by, mut, shr, entries-at, held, finish, function-meets}
-use Rattle.symexec.proofs.Arrays.{array-value, passed, calls-lending}
+use Rattle.walkkit.proofs.ByValue.{ByVal, struct-by, Known, known}
+use Rattle.walkkit.proofs.Loans.{Pass, value, lent, shown, lfts, shares, denots, valss, args, free, asks-nothing, calls-with}
+use Rattle.walkkit.proofs.Law.{Param, by, mut, shr, entries-at, held, finish, function-meets}
+use Rattle.walkkit.proofs.Arrays.{array-value, passed, calls-lending}
 use Rattle.value_types.proofs.Types.{word, number, records, records-in}
 use Rattle.sched_new.proofs.Types.{config, capacities}
 use Rattle.replay.proofs.Types.{replayed}

@@ -53,10 +53,10 @@ use Rattle.report_io.specs.declared.Upcoming.{Upcoming}
 use Rattle.report.specs.Running.{Runnable, Finished}
 use Rattle.walkkit.proofs.Again.{at-list}
 use Rattle.walkkit.proofs.Lent.{Gives, calls-by}
-use Rattle.callkit.proofs.Returned.{Returns, calls-to}
-use Rattle.callkit.proofs.Spelled.{fnBy, localTy, Typed}
+use Rattle.walkkit.proofs.Returned.{Returns, calls-to}
+use Rattle.walkkit.proofs.Spelled.{fnBy, localTy, Typed}
 use Rattle.sched.proofs.Memory.{Lists, Long}
-use Rattle.sched.proofs.Locals.{envOf, Others, allocs-all}
+use Rattle.walkkit.proofs.Locals.{envOf, Others, allocs-all}
 use Rattle.model.proofs.ThreadInfo as T
 use Rattle.feed_plan.proofs.Report as P
 use Rattle.feed_plan.proofs.Report.Laws as P′

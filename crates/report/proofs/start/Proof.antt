@@ -45,9 +45,9 @@ use Rattle.feed_plan.specs.declared.Report.{Report}
 use Rattle.report_io.specs.declared.Upcoming.{Upcoming}
 use Rattle.report.specs.Running.{Runnable, Finished}
 use Rattle.walkkit.proofs.Again.{at-list}
-use Rattle.callkit.proofs.Returned.{Returns, calls-to}
-use Rattle.callkit.proofs.Spelled.{fnBy, localTy, Typed}
-use Rattle.sched.proofs.Locals.{allocs-all, frees-all}
+use Rattle.walkkit.proofs.Returned.{Returns, calls-to}
+use Rattle.walkkit.proofs.Spelled.{fnBy, localTy, Typed}
+use Rattle.walkkit.proofs.Locals.{allocs-all, frees-all}
 use Rattle.sched.proofs.Memory.{At, Lists, slice}
 use Rattle.report.proofs.Starting as K
 use Rattle.report.proofs.Starting.{Ts, tmach}

@@ -1,4 +1,4 @@
--- `sched::apply` meets its contract. It only matches, lends and calls, so that the law of `symexec` has the rest; what stands here is, for each call, which slices it takes, and how its answer is converted.
+-- `sched::apply` meets its contract. It only matches, lends and calls, so that the law of `walkkit` has the rest; what stands here is, for each call, which slices it takes, and how its answer is converted.
 use mathlib.Core.Path.{_≡_, refl, sym, subst}
 use Prim.Native.Nat.{ℕ, _≤_}
 use mathlib.Core.List.{[], _∷_, List}
@@ -79,9 +79,9 @@ use Rattle.sched.proofs.answers.of_join.Met as of-join-thm
 use Rattle.sched.proofs.answers.of_ticked as of-ticked
 use Rattle.sched.proofs.answers.of_ticked.Symbol as of-ticked-def
 use Rattle.sched.proofs.answers.of_ticked.Met as of-ticked-thm
-use Rattle.symexec.proofs.ByValue.{known}
-use Rattle.symexec.proofs.Loans.{Pass, value, lent, shown, lfts, shares, denots, valss, args, left-by, asks, free, calls-with, calls-citing}
-use Rattle.symexec.proofs.Law.{Param, by, mut, Sound, held, finish, code-asks, function-meets}
+use Rattle.walkkit.proofs.ByValue.{known}
+use Rattle.walkkit.proofs.Loans.{Pass, value, lent, shown, lfts, shares, denots, valss, args, left-by, asks, free, calls-with, calls-citing}
+use Rattle.walkkit.proofs.Law.{Param, by, mut, owes, Sound, held, finish, code-asks, function-meets}
 use Rattle.value_types.proofs.Types.{number, sched, coreId, optionTid, tid, answered}
 use Rattle.sched_threads.proofs.At.{spawn-at, join-at, yield-now-at, set-priority-at}
 use Rattle.sched_exit.proofs.At.{exit-at}
@@ -161,186 +161,128 @@ module _ {M : Type 1} (𝓤 : URA M) (H : Heap 𝓤) (A : Atoms 𝓤) (W : Given
         let es = held 𝓤 H A W params (applied 𝓤 H A W) (f.clauses 𝓤 H A mem run) κs shs tt (st, ((Cases.Spawn parent pc), m)) tt are in
         let o = EL.owed Q.the-type Q′.the-laws (Cases.Spawn parent pc) _ (are .1 .0) in
         let ss : List (Pass 𝓤 H A) = value (known (sched 𝓤 H A W) st (are .0)) ∷ value (known (optionTid 𝓤 H A W) parent (o .0)) ∷ value (known (number 𝓤 H A W) pc (o .1 .0)) ∷ lent 0 ∷ lent 1 ∷ lent 2 ∷ lent 3 ∷ [] in
-        let xs = args 𝓤 H A es ss in (
-          optionTid 𝓤 H A W .lawful .typed parent _ (o .0) .0 .0,
-          (
-            number 𝓤 H A W .lawful .typed pc _ (o .1 .0) .0 .0,
-            calls-citing 𝓤 H A W es ss (spawn-at 𝓤 H A W mem run 𝓣 (met .0)) (ws, v) refl tt (λ r l le is-done.
-                let es₁ = left-by xs l le es in
-                let ss₁ : List (Pass 𝓤 H A) = value r ∷ [] in
-                let xs₁ = args 𝓤 H A es₁ ss₁ in
-                calls-with 𝓤 H A W es₁ ss₁ fm free (applied 𝓤 H A W) (λ y _. y ≡ ofSpawn (r .x)) (λ g. met .11 ((lfts xs₁ g, shares xs₁, tt, denots 0 xs₁ g, valss 0 xs₁ g), tt)) refl tt (λ y l₁ le₁ y-is. (
-                  applied 𝓤 H A W .lawful .typed (y .x) _ (y .is) .0 .0,
-                  (
-                    finish 𝓤 H A W params (applied 𝓤 H A W) (f.clauses 𝓤 H A mem run) κs shs tt (st, ((Cases.Spawn parent pc), m)) tt are y ((l .1 .1 .1 .0, le .0), ((l .1 .1 .1 .1 .0, le .1 .0), ((l .1 .1 .1 .1 .1 .0, le .1 .1 .0), ((l .1 .1 .1 .1 .1 .1 .0, le .1 .1 .1 .0), ((ws, refl), tt)))))
-                        (said (LeftAs (Calls.spawn (optionTidMeant parent) pc) (l .1 .1 .1 .0) (l .1 .1 .1 .1 .0) (l .1 .1 .1 .1 .1 .0) (l .1 .1 .1 .1 .1 .1 .0) ws) (y .x) (ofSpawn (r .x)) y-is _ (spawned-meant (r .x .answer) noSwitches) (is-done ws v)) refl,
-                    tt,
-                  ),
-                ))),
-          ),
-        )
+        let xs = args 𝓤 H A es ss in
+        owes (optionTid 𝓤 H A W .lawful .typed parent _ (o .0) .0 .0) (owes (number 𝓤 H A W .lawful .typed pc _ (o .1 .0) .0 .0) (calls-citing 𝓤 H A W es ss (spawn-at 𝓤 H A W mem run 𝓣 (met .0)) (ws, v) refl tt (λ r l le is-done.
+        let es₁ = left-by xs l le es in
+        let ss₁ : List (Pass 𝓤 H A) = value r ∷ [] in
+        let xs₁ = args 𝓤 H A es₁ ss₁ in
+        calls-with 𝓤 H A W es₁ ss₁ fm free (applied 𝓤 H A W) (λ y _. y ≡ ofSpawn (r .x)) (λ g. met .11 ((lfts xs₁ g, shares xs₁, tt, denots 0 xs₁ g, valss 0 xs₁ g), tt)) refl tt (λ y l₁ le₁ y-is. owes (applied 𝓤 H A W .lawful .typed (y .x) _ (y .is) .0 .0) (
+          finish 𝓤 H A W params (applied 𝓤 H A W) (f.clauses 𝓤 H A mem run) κs shs tt (st, ((Cases.Spawn parent pc), m)) tt are y ((l .1 .1 .1 .0, le .0), ((l .1 .1 .1 .1 .0, le .1 .0), ((l .1 .1 .1 .1 .1 .0, le .1 .1 .0), ((l .1 .1 .1 .1 .1 .1 .0, le .1 .1 .1 .0), ((ws, refl), tt)))))
+              (said (LeftAs (Calls.spawn (optionTidMeant parent) pc) (l .1 .1 .1 .0) (l .1 .1 .1 .1 .0) (l .1 .1 .1 .1 .1 .0) (l .1 .1 .1 .1 .1 .1 .0) ws) (y .x) (ofSpawn (r .x)) y-is _ (spawned-meant (r .x .answer) noSwitches) (is-done ws v)) refl,
+          tt,
+        )))))
 
     exit-arm : (core : CoreId) → Arm (Cases.Exit core)
     exit-arm core are v blk =
         let es = held 𝓤 H A W params (applied 𝓤 H A W) (f.clauses 𝓤 H A mem run) κs shs tt (st, ((Cases.Exit core), m)) tt are in
         let o = EL.owed Q.the-type Q′.the-laws (Cases.Exit core) _ (are .1 .0) in
         let ss : List (Pass 𝓤 H A) = value (known (sched 𝓤 H A W) st (are .0)) ∷ value (known (coreId 𝓤 H A W) core (o .0)) ∷ lent 0 ∷ lent 1 ∷ lent 3 ∷ [] in
-        let xs = args 𝓤 H A es ss in (
-          coreId 𝓤 H A W .lawful .typed core _ (o .0) .0 .0,
-          (
-            sched 𝓤 H A W .lawful .typed st _ (are .0) .0 .0,
-            calls-citing 𝓤 H A W es ss (exit-at 𝓤 H A W mem run 𝓣 (met .1)) (record { prios = ps; lanes = ws; valid = v }) refl tt (λ r l le is-done.
-                let es₁ = left-by xs l le es in
-                let ss₁ : List (Pass 𝓤 H A) = value r ∷ [] in
-                let xs₁ = args 𝓤 H A es₁ ss₁ in
-                calls-with 𝓤 H A W es₁ ss₁ fm free (applied 𝓤 H A W) (λ y _. y ≡ ofAnswered (r .x)) (λ g. met .10 ((lfts xs₁ g, shares xs₁, tt, denots 0 xs₁ g, valss 0 xs₁ g), tt)) refl tt (λ y l₁ le₁ y-is. (
-                  applied 𝓤 H A W .lawful .typed (y .x) _ (y .is) .0 .0,
-                  (
-                    finish 𝓤 H A W params (applied 𝓤 H A W) (f.clauses 𝓤 H A mem run) κs shs tt (st, ((Cases.Exit core), m)) tt are y ((l .1 .1 .0, le .0), ((l .1 .1 .1 .0, le .1 .0), ((ps, refl), ((l .1 .1 .1 .1 .0, le .1 .1 .0), ((ws, refl), tt)))))
-                        (said (LeftAs (Calls.exit (core .0)) (l .1 .1 .0) (l .1 .1 .1 .0) ps (l .1 .1 .1 .1 .0) ws) (y .x) (ofAnswered (r .x)) y-is _ (taken-meant (r .x .answer) noSwitches) (is-done ps ws v)) refl,
-                    tt,
-                  ),
-                ))),
-          ),
-        )
+        let xs = args 𝓤 H A es ss in
+        owes (coreId 𝓤 H A W .lawful .typed core _ (o .0) .0 .0) (owes (sched 𝓤 H A W .lawful .typed st _ (are .0) .0 .0) (calls-citing 𝓤 H A W es ss (exit-at 𝓤 H A W mem run 𝓣 (met .1)) (record { prios = ps; lanes = ws; valid = v }) refl tt (λ r l le is-done.
+        let es₁ = left-by xs l le es in
+        let ss₁ : List (Pass 𝓤 H A) = value r ∷ [] in
+        let xs₁ = args 𝓤 H A es₁ ss₁ in
+        calls-with 𝓤 H A W es₁ ss₁ fm free (applied 𝓤 H A W) (λ y _. y ≡ ofAnswered (r .x)) (λ g. met .10 ((lfts xs₁ g, shares xs₁, tt, denots 0 xs₁ g, valss 0 xs₁ g), tt)) refl tt (λ y l₁ le₁ y-is. owes (applied 𝓤 H A W .lawful .typed (y .x) _ (y .is) .0 .0) (
+          finish 𝓤 H A W params (applied 𝓤 H A W) (f.clauses 𝓤 H A mem run) κs shs tt (st, ((Cases.Exit core), m)) tt are y ((l .1 .1 .0, le .0), ((l .1 .1 .1 .0, le .1 .0), ((ps, refl), ((l .1 .1 .1 .1 .0, le .1 .1 .0), ((ws, refl), tt)))))
+              (said (LeftAs (Calls.exit (core .0)) (l .1 .1 .0) (l .1 .1 .1 .0) ps (l .1 .1 .1 .1 .0) ws) (y .x) (ofAnswered (r .x)) y-is _ (taken-meant (r .x .answer) noSwitches) (is-done ps ws v)) refl,
+          tt,
+        )))))
 
     join-arm : (core : CoreId) (target : Tid) → Arm (Cases.Join core target)
     join-arm core target are v blk =
         let es = held 𝓤 H A W params (applied 𝓤 H A W) (f.clauses 𝓤 H A mem run) κs shs tt (st, ((Cases.Join core target), m)) tt are in
         let o = EL.owed Q.the-type Q′.the-laws (Cases.Join core target) _ (are .1 .0) in
         let ss : List (Pass 𝓤 H A) = value (known (sched 𝓤 H A W) st (are .0)) ∷ value (known (coreId 𝓤 H A W) core (o .0)) ∷ value (known (tid 𝓤 H A W) target (o .1 .0)) ∷ lent 0 ∷ [] in
-        let xs = args 𝓤 H A es ss in (
-          coreId 𝓤 H A W .lawful .typed core _ (o .0) .0 .0,
-          (
-            tid 𝓤 H A W .lawful .typed target _ (o .1 .0) .0 .0,
-            calls-citing 𝓤 H A W es ss (join-at 𝓤 H A W mem run 𝓣 (met .2)) (qs, ps, ls, ws, v) refl tt (λ r l le is-done.
-                let es₁ = left-by xs l le es in
-                let ss₁ : List (Pass 𝓤 H A) = value r ∷ [] in
-                let xs₁ = args 𝓤 H A es₁ ss₁ in
-                calls-with 𝓤 H A W es₁ ss₁ fm free (applied 𝓤 H A W) (λ y _. y ≡ ofJoin (r .x)) (λ g. met .12 ((lfts xs₁ g, shares xs₁, tt, denots 0 xs₁ g, valss 0 xs₁ g), tt)) refl tt (λ y l₁ le₁ y-is. (
-                  applied 𝓤 H A W .lawful .typed (y .x) _ (y .is) .0 .0,
-                  (
-                    finish 𝓤 H A W params (applied 𝓤 H A W) (f.clauses 𝓤 H A mem run) κs shs tt (st, ((Cases.Join core target), m)) tt are y ((l .1 .1 .1 .0, le .0), ((qs, refl), ((ps, refl), ((ls, refl), ((ws, refl), tt)))))
-                        (said (LeftAs (Calls.join (core .0) (target .0)) (l .1 .1 .1 .0) qs ps ls ws) (y .x) (ofJoin (r .x)) y-is _ (joined-meant (r .x .answer) noSwitches) (is-done qs ps ls ws v)) refl,
-                    tt,
-                  ),
-                ))),
-          ),
-        )
+        let xs = args 𝓤 H A es ss in
+        owes (coreId 𝓤 H A W .lawful .typed core _ (o .0) .0 .0) (owes (tid 𝓤 H A W .lawful .typed target _ (o .1 .0) .0 .0) (calls-citing 𝓤 H A W es ss (join-at 𝓤 H A W mem run 𝓣 (met .2)) (qs, ps, ls, ws, v) refl tt (λ r l le is-done.
+        let es₁ = left-by xs l le es in
+        let ss₁ : List (Pass 𝓤 H A) = value r ∷ [] in
+        let xs₁ = args 𝓤 H A es₁ ss₁ in
+        calls-with 𝓤 H A W es₁ ss₁ fm free (applied 𝓤 H A W) (λ y _. y ≡ ofJoin (r .x)) (λ g. met .12 ((lfts xs₁ g, shares xs₁, tt, denots 0 xs₁ g, valss 0 xs₁ g), tt)) refl tt (λ y l₁ le₁ y-is. owes (applied 𝓤 H A W .lawful .typed (y .x) _ (y .is) .0 .0) (
+          finish 𝓤 H A W params (applied 𝓤 H A W) (f.clauses 𝓤 H A mem run) κs shs tt (st, ((Cases.Join core target), m)) tt are y ((l .1 .1 .1 .0, le .0), ((qs, refl), ((ps, refl), ((ls, refl), ((ws, refl), tt)))))
+              (said (LeftAs (Calls.join (core .0) (target .0)) (l .1 .1 .1 .0) qs ps ls ws) (y .x) (ofJoin (r .x)) y-is _ (joined-meant (r .x .answer) noSwitches) (is-done qs ps ls ws v)) refl,
+          tt,
+        )))))
 
     retired-arm : (core : CoreId) → Arm (Cases.Retired core)
     retired-arm core are v blk =
         let es = held 𝓤 H A W params (applied 𝓤 H A W) (f.clauses 𝓤 H A mem run) κs shs tt (st, ((Cases.Retired core), m)) tt are in
         let o = EL.owed Q.the-type Q′.the-laws (Cases.Retired core) _ (are .1 .0) in
         let ss : List (Pass 𝓤 H A) = value (known (sched 𝓤 H A W) st (are .0)) ∷ value (known (coreId 𝓤 H A W) core (o .0)) ∷ [] in
-        let xs = args 𝓤 H A es ss in (
-          coreId 𝓤 H A W .lawful .typed core _ (o .0) .0 .0,
-          calls-with 𝓤 H A W es ss fm (asks (st .cores ≤ 8) (v .sizes .cores)) (answered 𝓤 H A W) (λ r _. Unlent (Calls.retired (core .0)) st r) (λ g. met .3 ((lfts xs g, shares xs, tt, denots 0 xs g, valss 0 xs g), tt)) refl tt (λ r l le is-done.
-              let es₁ = left-by xs l le es in
-              let ss₁ : List (Pass 𝓤 H A) = value r ∷ [] in
-              let xs₁ = args 𝓤 H A es₁ ss₁ in
-              calls-with 𝓤 H A W es₁ ss₁ fm free (applied 𝓤 H A W) (λ y _. y ≡ ofAnswered (r .x)) (λ g. met .10 ((lfts xs₁ g, shares xs₁, tt, denots 0 xs₁ g, valss 0 xs₁ g), tt)) refl tt (λ y l₁ le₁ y-is. (
-                applied 𝓤 H A W .lawful .typed (y .x) _ (y .is) .0 .0,
-                (
-                  finish 𝓤 H A W params (applied 𝓤 H A W) (f.clauses 𝓤 H A mem run) κs shs tt (st, ((Cases.Retired core), m)) tt are y ((ts, refl), ((qs, refl), ((ps, refl), ((ls, refl), ((ws, refl), tt)))))
-                      (said (LeftAs (Calls.retired (core .0)) ts qs ps ls ws) (y .x) (ofAnswered (r .x)) y-is _ (taken-meant (r .x .answer) noSwitches) (is-done ts qs ps ls ws v)) refl,
-                  tt,
-                ),
-              ))),
-        )
+        let xs = args 𝓤 H A es ss in
+        owes (coreId 𝓤 H A W .lawful .typed core _ (o .0) .0 .0) (calls-with 𝓤 H A W es ss fm (asks (st .cores ≤ 8) (v .sizes .cores)) (answered 𝓤 H A W) (λ r _. Unlent (Calls.retired (core .0)) st r) (λ g. met .3 ((lfts xs g, shares xs, tt, denots 0 xs g, valss 0 xs g), tt)) refl tt (λ r l le is-done.
+        let es₁ = left-by xs l le es in
+        let ss₁ : List (Pass 𝓤 H A) = value r ∷ [] in
+        let xs₁ = args 𝓤 H A es₁ ss₁ in
+        calls-with 𝓤 H A W es₁ ss₁ fm free (applied 𝓤 H A W) (λ y _. y ≡ ofAnswered (r .x)) (λ g. met .10 ((lfts xs₁ g, shares xs₁, tt, denots 0 xs₁ g, valss 0 xs₁ g), tt)) refl tt (λ y l₁ le₁ y-is. owes (applied 𝓤 H A W .lawful .typed (y .x) _ (y .is) .0 .0) (
+          finish 𝓤 H A W params (applied 𝓤 H A W) (f.clauses 𝓤 H A mem run) κs shs tt (st, ((Cases.Retired core), m)) tt are y ((ts, refl), ((qs, refl), ((ps, refl), ((ls, refl), ((ws, refl), tt)))))
+              (said (LeftAs (Calls.retired (core .0)) ts qs ps ls ws) (y .x) (ofAnswered (r .x)) y-is _ (taken-meant (r .x .answer) noSwitches) (is-done ts qs ps ls ws v)) refl,
+          tt,
+        ))))
 
     yield-arm : (core : CoreId) → Arm (Cases.YieldNow core)
     yield-arm core are v blk =
         let es = held 𝓤 H A W params (applied 𝓤 H A W) (f.clauses 𝓤 H A mem run) κs shs tt (st, ((Cases.YieldNow core), m)) tt are in
         let o = EL.owed Q.the-type Q′.the-laws (Cases.YieldNow core) _ (are .1 .0) in
         let ss : List (Pass 𝓤 H A) = value (known (sched 𝓤 H A W) st (are .0)) ∷ value (known (coreId 𝓤 H A W) core (o .0)) ∷ lent 0 ∷ [] in
-        let xs = args 𝓤 H A es ss in (
-          coreId 𝓤 H A W .lawful .typed core _ (o .0) .0 .0,
-          calls-citing 𝓤 H A W es ss (yield-now-at 𝓤 H A W mem run 𝓣 (met .4)) (qs, ps, ls, ws, v) refl tt (λ r l le is-done.
-              let es₁ = left-by xs l le es in
-              let ss₁ : List (Pass 𝓤 H A) = value r ∷ [] in
-              let xs₁ = args 𝓤 H A es₁ ss₁ in
-              calls-with 𝓤 H A W es₁ ss₁ fm free (applied 𝓤 H A W) (λ y _. y ≡ ofAnswered (r .x)) (λ g. met .10 ((lfts xs₁ g, shares xs₁, tt, denots 0 xs₁ g, valss 0 xs₁ g), tt)) refl tt (λ y l₁ le₁ y-is. (
-                applied 𝓤 H A W .lawful .typed (y .x) _ (y .is) .0 .0,
-                (
-                  finish 𝓤 H A W params (applied 𝓤 H A W) (f.clauses 𝓤 H A mem run) κs shs tt (st, ((Cases.YieldNow core), m)) tt are y ((l .1 .1 .0, le .0), ((qs, refl), ((ps, refl), ((ls, refl), ((ws, refl), tt)))))
-                      (said (LeftAs (Calls.yield (core .0)) (l .1 .1 .0) qs ps ls ws) (y .x) (ofAnswered (r .x)) y-is _ (taken-meant (r .x .answer) noSwitches) (is-done qs ps ls ws v)) refl,
-                  tt,
-                ),
-              ))),
-        )
+        let xs = args 𝓤 H A es ss in
+        owes (coreId 𝓤 H A W .lawful .typed core _ (o .0) .0 .0) (calls-citing 𝓤 H A W es ss (yield-now-at 𝓤 H A W mem run 𝓣 (met .4)) (qs, ps, ls, ws, v) refl tt (λ r l le is-done.
+        let es₁ = left-by xs l le es in
+        let ss₁ : List (Pass 𝓤 H A) = value r ∷ [] in
+        let xs₁ = args 𝓤 H A es₁ ss₁ in
+        calls-with 𝓤 H A W es₁ ss₁ fm free (applied 𝓤 H A W) (λ y _. y ≡ ofAnswered (r .x)) (λ g. met .10 ((lfts xs₁ g, shares xs₁, tt, denots 0 xs₁ g, valss 0 xs₁ g), tt)) refl tt (λ y l₁ le₁ y-is. owes (applied 𝓤 H A W .lawful .typed (y .x) _ (y .is) .0 .0) (
+          finish 𝓤 H A W params (applied 𝓤 H A W) (f.clauses 𝓤 H A mem run) κs shs tt (st, ((Cases.YieldNow core), m)) tt are y ((l .1 .1 .0, le .0), ((qs, refl), ((ps, refl), ((ls, refl), ((ws, refl), tt)))))
+              (said (LeftAs (Calls.yield (core .0)) (l .1 .1 .0) qs ps ls ws) (y .x) (ofAnswered (r .x)) y-is _ (taken-meant (r .x .answer) noSwitches) (is-done qs ps ls ws v)) refl,
+          tt,
+        ))))
 
     priority-arm : (target : Tid) (n : ℕ) → Arm (Cases.SetPriority target n)
     priority-arm target n are v blk =
         let es = held 𝓤 H A W params (applied 𝓤 H A W) (f.clauses 𝓤 H A mem run) κs shs tt (st, ((Cases.SetPriority target n), m)) tt are in
         let o = EL.owed Q.the-type Q′.the-laws (Cases.SetPriority target n) _ (are .1 .0) in
         let ss : List (Pass 𝓤 H A) = value (known (sched 𝓤 H A W) st (are .0)) ∷ value (known (tid 𝓤 H A W) target (o .0)) ∷ value (known (number 𝓤 H A W) n (o .1 .0)) ∷ lent 0 ∷ lent 2 ∷ lent 3 ∷ [] in
-        let xs = args 𝓤 H A es ss in (
-          tid 𝓤 H A W .lawful .typed target _ (o .0) .0 .0,
-          (
-            number 𝓤 H A W .lawful .typed n _ (o .1 .0) .0 .0,
-            calls-citing 𝓤 H A W es ss (set-priority-at 𝓤 H A W mem run 𝓣 (met .5)) (qs, ws, v) refl tt (λ r l le is-done.
-                let es₁ = left-by xs l le es in
-                let ss₁ : List (Pass 𝓤 H A) = value r ∷ [] in
-                let xs₁ = args 𝓤 H A es₁ ss₁ in
-                calls-with 𝓤 H A W es₁ ss₁ fm free (applied 𝓤 H A W) (λ y _. y ≡ ofAnswered (r .x)) (λ g. met .10 ((lfts xs₁ g, shares xs₁, tt, denots 0 xs₁ g, valss 0 xs₁ g), tt)) refl tt (λ y l₁ le₁ y-is. (
-                  applied 𝓤 H A W .lawful .typed (y .x) _ (y .is) .0 .0,
-                  (
-                    finish 𝓤 H A W params (applied 𝓤 H A W) (f.clauses 𝓤 H A mem run) κs shs tt (st, ((Cases.SetPriority target n), m)) tt are y ((l .1 .1 .1 .0, le .0), ((qs, refl), ((l .1 .1 .1 .1 .0, le .1 .0), ((l .1 .1 .1 .1 .1 .0, le .1 .1 .0), ((ws, refl), tt)))))
-                        (said (LeftAs (Calls.priority (target .0) n) (l .1 .1 .1 .0) qs (l .1 .1 .1 .1 .0) (l .1 .1 .1 .1 .1 .0) ws) (y .x) (ofAnswered (r .x)) y-is _ (taken-meant (r .x .answer) noSwitches) (is-done qs ws v)) refl,
-                    tt,
-                  ),
-                ))),
-          ),
-        )
+        let xs = args 𝓤 H A es ss in
+        owes (tid 𝓤 H A W .lawful .typed target _ (o .0) .0 .0) (owes (number 𝓤 H A W .lawful .typed n _ (o .1 .0) .0 .0) (calls-citing 𝓤 H A W es ss (set-priority-at 𝓤 H A W mem run 𝓣 (met .5)) (qs, ws, v) refl tt (λ r l le is-done.
+        let es₁ = left-by xs l le es in
+        let ss₁ : List (Pass 𝓤 H A) = value r ∷ [] in
+        let xs₁ = args 𝓤 H A es₁ ss₁ in
+        calls-with 𝓤 H A W es₁ ss₁ fm free (applied 𝓤 H A W) (λ y _. y ≡ ofAnswered (r .x)) (λ g. met .10 ((lfts xs₁ g, shares xs₁, tt, denots 0 xs₁ g, valss 0 xs₁ g), tt)) refl tt (λ y l₁ le₁ y-is. owes (applied 𝓤 H A W .lawful .typed (y .x) _ (y .is) .0 .0) (
+          finish 𝓤 H A W params (applied 𝓤 H A W) (f.clauses 𝓤 H A mem run) κs shs tt (st, ((Cases.SetPriority target n), m)) tt are y ((l .1 .1 .1 .0, le .0), ((qs, refl), ((l .1 .1 .1 .1 .0, le .1 .0), ((l .1 .1 .1 .1 .1 .0, le .1 .1 .0), ((ws, refl), tt)))))
+              (said (LeftAs (Calls.priority (target .0) n) (l .1 .1 .1 .0) qs (l .1 .1 .1 .1 .0) (l .1 .1 .1 .1 .1 .0) ws) (y .x) (ofAnswered (r .x)) y-is _ (taken-meant (r .x .answer) noSwitches) (is-done qs ws v)) refl,
+          tt,
+        )))))
 
     timing-arm : (quantum : ℕ) (cost : ℕ) → Arm (Cases.SetTiming quantum cost)
     timing-arm quantum cost are v blk =
         let es = held 𝓤 H A W params (applied 𝓤 H A W) (f.clauses 𝓤 H A mem run) κs shs tt (st, ((Cases.SetTiming quantum cost), m)) tt are in
         let o = EL.owed Q.the-type Q′.the-laws (Cases.SetTiming quantum cost) _ (are .1 .0) in
         let ss : List (Pass 𝓤 H A) = value (known (sched 𝓤 H A W) st (are .0)) ∷ value (known (number 𝓤 H A W) quantum (o .0)) ∷ value (known (number 𝓤 H A W) cost (o .1 .0)) ∷ [] in
-        let xs = args 𝓤 H A es ss in (
-          number 𝓤 H A W .lawful .typed quantum _ (o .0) .0 .0,
-          (
-            number 𝓤 H A W .lawful .typed cost _ (o .1 .0) .0 .0,
-            calls-with 𝓤 H A W es ss fm free (answered 𝓤 H A W) (λ r _. Unlent (Calls.timing quantum cost) st r) (λ g. met .6 ((lfts xs g, shares xs, tt, denots 0 xs g, valss 0 xs g), tt)) refl tt (λ r l le is-done.
-                let es₁ = left-by xs l le es in
-                let ss₁ : List (Pass 𝓤 H A) = value r ∷ [] in
-                let xs₁ = args 𝓤 H A es₁ ss₁ in
-                calls-with 𝓤 H A W es₁ ss₁ fm free (applied 𝓤 H A W) (λ y _. y ≡ ofAnswered (r .x)) (λ g. met .10 ((lfts xs₁ g, shares xs₁, tt, denots 0 xs₁ g, valss 0 xs₁ g), tt)) refl tt (λ y l₁ le₁ y-is. (
-                  applied 𝓤 H A W .lawful .typed (y .x) _ (y .is) .0 .0,
-                  (
-                    finish 𝓤 H A W params (applied 𝓤 H A W) (f.clauses 𝓤 H A mem run) κs shs tt (st, ((Cases.SetTiming quantum cost), m)) tt are y ((ts, refl), ((qs, refl), ((ps, refl), ((ls, refl), ((ws, refl), tt)))))
-                        (said (LeftAs (Calls.timing quantum cost) ts qs ps ls ws) (y .x) (ofAnswered (r .x)) y-is _ (taken-meant (r .x .answer) noSwitches) (is-done ts qs ps ls ws v)) refl,
-                    tt,
-                  ),
-                ))),
-          ),
-        )
+        let xs = args 𝓤 H A es ss in
+        owes (number 𝓤 H A W .lawful .typed quantum _ (o .0) .0 .0) (owes (number 𝓤 H A W .lawful .typed cost _ (o .1 .0) .0 .0) (calls-with 𝓤 H A W es ss fm free (answered 𝓤 H A W) (λ r _. Unlent (Calls.timing quantum cost) st r) (λ g. met .6 ((lfts xs g, shares xs, tt, denots 0 xs g, valss 0 xs g), tt)) refl tt (λ r l le is-done.
+        let es₁ = left-by xs l le es in
+        let ss₁ : List (Pass 𝓤 H A) = value r ∷ [] in
+        let xs₁ = args 𝓤 H A es₁ ss₁ in
+        calls-with 𝓤 H A W es₁ ss₁ fm free (applied 𝓤 H A W) (λ y _. y ≡ ofAnswered (r .x)) (λ g. met .10 ((lfts xs₁ g, shares xs₁, tt, denots 0 xs₁ g, valss 0 xs₁ g), tt)) refl tt (λ y l₁ le₁ y-is. owes (applied 𝓤 H A W .lawful .typed (y .x) _ (y .is) .0 .0) (
+          finish 𝓤 H A W params (applied 𝓤 H A W) (f.clauses 𝓤 H A mem run) κs shs tt (st, ((Cases.SetTiming quantum cost), m)) tt are y ((ts, refl), ((qs, refl), ((ps, refl), ((ls, refl), ((ws, refl), tt)))))
+              (said (LeftAs (Calls.timing quantum cost) ts qs ps ls ws) (y .x) (ofAnswered (r .x)) y-is _ (taken-meant (r .x .answer) noSwitches) (is-done ts qs ps ls ws v)) refl,
+          tt,
+        )))))
 
     force-arm : (core : CoreId) (named : OptionTid) → Arm (Cases.ForceSwitch core named)
     force-arm core named are v blk =
         let es = held 𝓤 H A W params (applied 𝓤 H A W) (f.clauses 𝓤 H A mem run) κs shs tt (st, ((Cases.ForceSwitch core named), m)) tt are in
         let o = EL.owed Q.the-type Q′.the-laws (Cases.ForceSwitch core named) _ (are .1 .0) in
         let ss : List (Pass 𝓤 H A) = value (known (sched 𝓤 H A W) st (are .0)) ∷ value (known (coreId 𝓤 H A W) core (o .0)) ∷ value (known (optionTid 𝓤 H A W) named (o .1 .0)) ∷ lent 0 ∷ lent 1 ∷ shown 2 ∷ lent 3 ∷ lent 4 ∷ [] in
-        let xs = args 𝓤 H A es ss in (
-          coreId 𝓤 H A W .lawful .typed core _ (o .0) .0 .0,
-          (
-            optionTid 𝓤 H A W .lawful .typed named _ (o .1 .0) .0 .0,
-            calls-citing 𝓤 H A W es ss (force-switch-at 𝓤 H A W mem run 𝓣 (met .7)) v refl tt (λ r l le is-done.
-                let es₁ = left-by xs l le es in
-                let ss₁ : List (Pass 𝓤 H A) = value r ∷ [] in
-                let xs₁ = args 𝓤 H A es₁ ss₁ in
-                calls-with 𝓤 H A W es₁ ss₁ fm free (applied 𝓤 H A W) (λ y _. y ≡ ofTicked (r .x)) (λ g. met .13 ((lfts xs₁ g, shares xs₁, tt, denots 0 xs₁ g, valss 0 xs₁ g), tt)) refl tt (λ y l₁ le₁ y-is. (
-                  applied 𝓤 H A W .lawful .typed (y .x) _ (y .is) .0 .0,
-                  (
-                    finish 𝓤 H A W params (applied 𝓤 H A W) (f.clauses 𝓤 H A mem run) κs shs tt (st, ((Cases.ForceSwitch core named), m)) tt are y ((l .1 .1 .1 .0, le .0), ((l .1 .1 .1 .1 .0, le .1 .0), ((ps, refl), ((l .1 .1 .1 .1 .1 .1 .0, le .1 .1 .0), ((l .1 .1 .1 .1 .1 .1 .1 .0, le .1 .1 .1 .0), tt)))))
-                        (said (LeftAs (Calls.force (core .0) (optionTidMeant named)) (l .1 .1 .1 .0) (l .1 .1 .1 .1 .0) ps (l .1 .1 .1 .1 .1 .1 .0) (l .1 .1 .1 .1 .1 .1 .1 .0)) (y .x) (ofTicked (r .x)) y-is _ (switched-meant (r .x .answer) (r .x .switches)) is-done) refl,
-                    tt,
-                  ),
-                ))),
-          ),
-        )
+        let xs = args 𝓤 H A es ss in
+        owes (coreId 𝓤 H A W .lawful .typed core _ (o .0) .0 .0) (owes (optionTid 𝓤 H A W .lawful .typed named _ (o .1 .0) .0 .0) (calls-citing 𝓤 H A W es ss (force-switch-at 𝓤 H A W mem run 𝓣 (met .7)) v refl tt (λ r l le is-done.
+        let es₁ = left-by xs l le es in
+        let ss₁ : List (Pass 𝓤 H A) = value r ∷ [] in
+        let xs₁ = args 𝓤 H A es₁ ss₁ in
+        calls-with 𝓤 H A W es₁ ss₁ fm free (applied 𝓤 H A W) (λ y _. y ≡ ofTicked (r .x)) (λ g. met .13 ((lfts xs₁ g, shares xs₁, tt, denots 0 xs₁ g, valss 0 xs₁ g), tt)) refl tt (λ y l₁ le₁ y-is. owes (applied 𝓤 H A W .lawful .typed (y .x) _ (y .is) .0 .0) (
+          finish 𝓤 H A W params (applied 𝓤 H A W) (f.clauses 𝓤 H A mem run) κs shs tt (st, ((Cases.ForceSwitch core named), m)) tt are y ((l .1 .1 .1 .0, le .0), ((l .1 .1 .1 .1 .0, le .1 .0), ((ps, refl), ((l .1 .1 .1 .1 .1 .1 .0, le .1 .1 .0), ((l .1 .1 .1 .1 .1 .1 .1 .0, le .1 .1 .1 .0), tt)))))
+              (said (LeftAs (Calls.force (core .0) (optionTidMeant named)) (l .1 .1 .1 .0) (l .1 .1 .1 .1 .0) ps (l .1 .1 .1 .1 .1 .1 .0) (l .1 .1 .1 .1 .1 .1 .1 .0)) (y .x) (ofTicked (r .x)) y-is _ (switched-meant (r .x .answer) (r .x .switches)) is-done) refl,
+          tt,
+        )))))
 
     tick-arm : Arm Cases.EndTick
     tick-arm are v blk =
@@ -351,13 +293,10 @@ module _ {M : Type 1} (𝓤 : URA M) (H : Heap 𝓤) (A : Atoms 𝓤) (W : Given
         let es₁ = left-by xs l le es in
         let ss₁ : List (Pass 𝓤 H A) = value r ∷ [] in
         let xs₁ = args 𝓤 H A es₁ ss₁ in
-        calls-with 𝓤 H A W es₁ ss₁ fm free (applied 𝓤 H A W) (λ y _. y ≡ ofTicked (r .x)) (λ g. met .13 ((lfts xs₁ g, shares xs₁, tt, denots 0 xs₁ g, valss 0 xs₁ g), tt)) refl tt (λ y l₁ le₁ y-is. (
-          applied 𝓤 H A W .lawful .typed (y .x) _ (y .is) .0 .0,
-          (
-            finish 𝓤 H A W params (applied 𝓤 H A W) (f.clauses 𝓤 H A mem run) κs shs tt (st, (Cases.EndTick, m)) tt are y ((l .1 .0, le .0), ((l .1 .1 .0, le .1 .0), ((ps, refl), ((l .1 .1 .1 .1 .0, le .1 .1 .0), ((l .1 .1 .1 .1 .1 .0, le .1 .1 .1 .0), tt)))))
-                (said (LeftAs (Calls.tick) (l .1 .0) (l .1 .1 .0) ps (l .1 .1 .1 .1 .0) (l .1 .1 .1 .1 .1 .0)) (y .x) (ofTicked (r .x)) y-is _ (switched-meant (r .x .answer) (r .x .switches)) is-done) refl,
-            tt,
-          ),
+        calls-with 𝓤 H A W es₁ ss₁ fm free (applied 𝓤 H A W) (λ y _. y ≡ ofTicked (r .x)) (λ g. met .13 ((lfts xs₁ g, shares xs₁, tt, denots 0 xs₁ g, valss 0 xs₁ g), tt)) refl tt (λ y l₁ le₁ y-is. owes (applied 𝓤 H A W .lawful .typed (y .x) _ (y .is) .0 .0) (
+          finish 𝓤 H A W params (applied 𝓤 H A W) (f.clauses 𝓤 H A mem run) κs shs tt (st, (Cases.EndTick, m)) tt are y ((l .1 .0, le .0), ((l .1 .1 .0, le .1 .0), ((ps, refl), ((l .1 .1 .1 .1 .0, le .1 .1 .0), ((l .1 .1 .1 .1 .1 .0, le .1 .1 .1 .0), tt)))))
+              (said (LeftAs (Calls.tick) (l .1 .0) (l .1 .1 .0) ps (l .1 .1 .1 .1 .0) (l .1 .1 .1 .1 .1 .0)) (y .x) (ofTicked (r .x)) y-is _ (switched-meant (r .x .answer) (r .x .switches)) is-done) refl,
+          tt,
         )))
 
     close-arm : (core : CoreId) → Arm (Cases.Close core)
@@ -365,24 +304,16 @@ module _ {M : Type 1} (𝓤 : URA M) (H : Heap 𝓤) (A : Atoms 𝓤) (W : Given
         let es = held 𝓤 H A W params (applied 𝓤 H A W) (f.clauses 𝓤 H A mem run) κs shs tt (st, ((Cases.Close core), m)) tt are in
         let o = EL.owed Q.the-type Q′.the-laws (Cases.Close core) _ (are .1 .0) in
         let ss : List (Pass 𝓤 H A) = value (known (sched 𝓤 H A W) st (are .0)) ∷ value (known (coreId 𝓤 H A W) core (o .0)) ∷ lent 0 ∷ lent 1 ∷ lent 3 ∷ lent 4 ∷ [] in
-        let xs = args 𝓤 H A es ss in (
-          coreId 𝓤 H A W .lawful .typed core _ (o .0) .0 .0,
-          (
-            sched 𝓤 H A W .lawful .typed st _ (are .0) .0 .0,
-            calls-citing 𝓤 H A W es ss (close-at 𝓤 H A W mem run 𝓣 (met .9)) (ps, v) refl tt (λ r l le is-done.
-                let es₁ = left-by xs l le es in
-                let ss₁ : List (Pass 𝓤 H A) = value r ∷ [] in
-                let xs₁ = args 𝓤 H A es₁ ss₁ in
-                calls-with 𝓤 H A W es₁ ss₁ fm free (applied 𝓤 H A W) (λ y _. y ≡ ofAnswered (r .x)) (λ g. met .10 ((lfts xs₁ g, shares xs₁, tt, denots 0 xs₁ g, valss 0 xs₁ g), tt)) refl tt (λ y l₁ le₁ y-is. (
-                  applied 𝓤 H A W .lawful .typed (y .x) _ (y .is) .0 .0,
-                  (
-                    finish 𝓤 H A W params (applied 𝓤 H A W) (f.clauses 𝓤 H A mem run) κs shs tt (st, ((Cases.Close core), m)) tt are y ((l .1 .1 .0, le .0), ((l .1 .1 .1 .0, le .1 .0), ((ps, refl), ((l .1 .1 .1 .1 .0, le .1 .1 .0), ((l .1 .1 .1 .1 .1 .0, le .1 .1 .1 .0), tt)))))
-                        (said (LeftAs (Calls.close (core .0)) (l .1 .1 .0) (l .1 .1 .1 .0) ps (l .1 .1 .1 .1 .0) (l .1 .1 .1 .1 .1 .0)) (y .x) (ofAnswered (r .x)) y-is _ (taken-meant (r .x .answer) noSwitches) (is-done ps v)) refl,
-                    tt,
-                  ),
-                ))),
-          ),
-        )
+        let xs = args 𝓤 H A es ss in
+        owes (coreId 𝓤 H A W .lawful .typed core _ (o .0) .0 .0) (owes (sched 𝓤 H A W .lawful .typed st _ (are .0) .0 .0) (calls-citing 𝓤 H A W es ss (close-at 𝓤 H A W mem run 𝓣 (met .9)) (ps, v) refl tt (λ r l le is-done.
+        let es₁ = left-by xs l le es in
+        let ss₁ : List (Pass 𝓤 H A) = value r ∷ [] in
+        let xs₁ = args 𝓤 H A es₁ ss₁ in
+        calls-with 𝓤 H A W es₁ ss₁ fm free (applied 𝓤 H A W) (λ y _. y ≡ ofAnswered (r .x)) (λ g. met .10 ((lfts xs₁ g, shares xs₁, tt, denots 0 xs₁ g, valss 0 xs₁ g), tt)) refl tt (λ y l₁ le₁ y-is. owes (applied 𝓤 H A W .lawful .typed (y .x) _ (y .is) .0 .0) (
+          finish 𝓤 H A W params (applied 𝓤 H A W) (f.clauses 𝓤 H A mem run) κs shs tt (st, ((Cases.Close core), m)) tt are y ((l .1 .1 .0, le .0), ((l .1 .1 .1 .0, le .1 .0), ((ps, refl), ((l .1 .1 .1 .1 .0, le .1 .1 .0), ((l .1 .1 .1 .1 .1 .0, le .1 .1 .1 .0), tt)))))
+              (said (LeftAs (Calls.close (core .0)) (l .1 .1 .0) (l .1 .1 .1 .0) ps (l .1 .1 .1 .1 .0) (l .1 .1 .1 .1 .1 .0)) (y .x) (ofAnswered (r .x)) y-is _ (taken-meant (r .x .answer) noSwitches) (is-done ps v)) refl,
+          tt,
+        )))))
 
     arms : (c : Call) → Arm c
     arms (Cases.Spawn parent pc) = spawn-arm parent pc

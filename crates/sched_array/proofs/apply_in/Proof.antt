@@ -1,4 +1,4 @@
--- `sched_array::apply_in` meets its contract. The array of records in a local is lent to `apply` as a slice (`Arrays` of `symexec`); the rest is lent and passed on.
+-- `sched_array::apply_in` meets its contract. The array of records in a local is lent to `apply` as a slice (`Arrays` of `walkkit`); the rest is lent and passed on.
 use mathlib.Core.Path.{_≡_, refl, sym, subst}
 use Prim.Native.Nat.{ℕ}
 use mathlib.Core.Bool.{Bool, true, false}
@@ -30,10 +30,10 @@ use Rattle.sched.proofs.apply.Met as apply-thm
 use Rattle.sched_array.proofs.step_of as step
 use Rattle.sched_array.proofs.step_of.Symbol as step-def
 use Rattle.sched_array.proofs.step_of.Met as step-thm
-use Rattle.symexec.proofs.ByValue.{Known, known}
-use Rattle.symexec.proofs.Loans.{Pass, value, lent, lfts, shares, denots, valss, args, free, calls-with}
-use Rattle.symexec.proofs.Law.{Param, by, mut, entries-at, held, finish, function-meets}
-use Rattle.symexec.proofs.Arrays.{array-value, calls-lending}
+use Rattle.walkkit.proofs.ByValue.{Known, known}
+use Rattle.walkkit.proofs.Loans.{Pass, value, lent, lfts, shares, denots, valss, args, free, calls-with}
+use Rattle.walkkit.proofs.Law.{Param, by, mut, entries-at, held, finish, function-meets}
+use Rattle.walkkit.proofs.Arrays.{array-value, calls-lending}
 use Rattle.value_types.proofs.Types.{sched, records, records-in}
 use Rattle.sched.proofs.Types.{call, applied}
 use Rattle.sched.proofs.At.{apply-at}

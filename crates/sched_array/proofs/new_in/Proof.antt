@@ -1,4 +1,4 @@
--- `sched_array::new_in` meets its contract. The array of records in a local is lent to `new` as a slice (`Arrays` of `symexec`); the rest is lent and passed on.
+-- `sched_array::new_in` meets its contract. The array of records in a local is lent to `new` as a slice (`Arrays` of `walkkit`); the rest is lent and passed on.
 use mathlib.Core.Path.{_≡_, refl, sym, subst}
 use Prim.Native.Nat.{ℕ}
 use mathlib.Core.Bool.{Bool, true, false}
@@ -28,10 +28,10 @@ use Rattle.sched_new.proofs.new.Met as new-thm
 use Rattle.sched_array.proofs.start_of as start
 use Rattle.sched_array.proofs.start_of.Symbol as start-def
 use Rattle.sched_array.proofs.start_of.Met as start-thm
-use Rattle.symexec.proofs.ByValue.{Known, known}
-use Rattle.symexec.proofs.Loans.{Pass, value, lent, shown, lfts, shares, denots, valss, args, free, asks-nothing, calls-with}
-use Rattle.symexec.proofs.Law.{Param, by, mut, shr, entries-at, held, finish, function-meets}
-use Rattle.symexec.proofs.Arrays.{array-value, passed, calls-lending}
+use Rattle.walkkit.proofs.ByValue.{Known, known}
+use Rattle.walkkit.proofs.Loans.{Pass, value, lent, shown, lfts, shares, denots, valss, args, free, asks-nothing, calls-with}
+use Rattle.walkkit.proofs.Law.{Param, by, mut, shr, entries-at, held, finish, function-meets}
+use Rattle.walkkit.proofs.Arrays.{array-value, passed, calls-lending}
 use Rattle.value_types.proofs.Types.{number, records, records-in}
 use Rattle.sched_new.proofs.Types.{config, capacities, created}
 use Rattle.sched_array.proofs.Types.{started}

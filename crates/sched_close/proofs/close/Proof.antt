@@ -1,4 +1,4 @@
--- `sched_close::close` meets its contract. It only lends and calls, so that the law of `symexec` has its entry, its loans and its exit; what stands here is which slices each call takes, and what its contract says.
+-- `sched_close::close` meets its contract. It only lends and calls, so that the law of `walkkit` has its entry, its loans and its exit; what stands here is which slices each call takes, and what its contract says.
 use mathlib.Core.Path.{_≡_, refl, subst}
 use Prim.Native.Nat.{ℕ, _≤_}
 use mathlib.Core.List.{[], _∷_, List}
@@ -50,9 +50,9 @@ use Rattle.threads.proofs.charge_all.Met as charge-thm
 use Rattle.close_plan.proofs.close_finished as finishing
 use Rattle.close_plan.proofs.close_finished.Symbol as finishing-def
 use Rattle.close_plan.proofs.close_finished.Met as finishing-thm
-use Rattle.symexec.proofs.ByValue.{ByVal, known}
-use Rattle.symexec.proofs.Loans.{Pass, value, lent, lfts, shares, denots, valss, args, left-by, asks, free, calls-with, calls-citing}
-use Rattle.symexec.proofs.Law.{Param, by, mut, held, finish, function-meets}
+use Rattle.walkkit.proofs.ByValue.{ByVal, known}
+use Rattle.walkkit.proofs.Loans.{Pass, value, lent, lfts, shares, denots, valss, args, left-by, asks, free, calls-with, calls-citing}
+use Rattle.walkkit.proofs.Law.{Param, by, mut, held, finish, function-meets}
 use Rattle.value_types.proofs.Types.{word, nothing, sched, coreId, coreStates, answered}
 use Rattle.sched_close.proofs.close.Key.{name as #sched-close·close}
 use Rattle.sched_close.proofs.close as f

@@ -1,4 +1,4 @@
--- `sched_exit::exit` meets its contract. It only lends and calls: `shellkit` has its entry, its loans and its exit; what stands here is which slices each call takes, and what its contract says.
+-- `sched_exit::exit` meets its contract. It only lends and calls: `walkkit` has its entry, its loans and its exit; what stands here is which slices each call takes, and what its contract says.
 use mathlib.Core.Path.{_≡_, refl}
 use Prim.Native.Nat.{ℕ, _<_, _≤_}
 use mathlib.Core.List.{[], _∷_, List}
@@ -57,10 +57,10 @@ use Rattle.threads.proofs.wake_waiters.Met as waking-thm
 use Rattle.exit_plan.proofs.exit_finished as finishing
 use Rattle.exit_plan.proofs.exit_finished.Symbol as finishing-def
 use Rattle.exit_plan.proofs.exit_finished.Met as finishing-thm
-use Rattle.symexec.proofs.ByValue.{ByVal, known}
-use Rattle.symexec.proofs.Loans.{Pass, value, lent, shown, lfts, shares, denots, valss, args, left-by, asks, free, calls-with}
+use Rattle.walkkit.proofs.ByValue.{ByVal, known}
+use Rattle.walkkit.proofs.Loans.{Pass, value, lent, shown, lfts, shares, denots, valss, args, left-by, asks, free, calls-with}
 use Rattle.value_types.proofs.Types.{word, nothing, sched, coreId, tid, change, answered}
-use Rattle.symexec.proofs.Law.{Param, by, mut, held, finish, function-meets}
+use Rattle.walkkit.proofs.Law.{Param, by, mut, held, finish, function-meets}
 use Rattle.sched_exit.proofs.exit.Key.{name as #sched-exit·exit}
 use Rattle.sched_exit.proofs.exit as f
 use Rattle.sched_exit.proofs.exit.Statement as stated

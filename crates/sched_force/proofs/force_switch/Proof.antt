@@ -1,4 +1,4 @@
--- `sched_force::force_switch` meets its contract. It only lends and calls: `shellkit` has its entry, its loans and its exit; what stands here is which slices each call takes, and what its contract says.
+-- `sched_force::force_switch` meets its contract. It only lends and calls: `walkkit` has its entry, its loans and its exit; what stands here is which slices each call takes, and what its contract says.
 use mathlib.Core.Path.{_≡_, refl, sym, subst}
 use Prim.Native.Nat.{ℕ, _<_}
 use mathlib.Core.List.{[], _∷_, List}
@@ -50,10 +50,10 @@ use Rattle.tick_plan.proofs.tick.moves_of.Met as moves-thm
 use Rattle.tick_plan.proofs.tick.ticked as answer
 use Rattle.tick_plan.proofs.tick.ticked.Symbol as answer-def
 use Rattle.tick_plan.proofs.tick.ticked.Met as answer-thm
-use Rattle.symexec.proofs.ByValue.{ByVal, known}
-use Rattle.symexec.proofs.Loans.{Entry, Pass, value, lent, shown, Ghosts, lfts, shares, denots, valss, args, left-by, asks, free, calls-with}
+use Rattle.walkkit.proofs.ByValue.{ByVal, known}
+use Rattle.walkkit.proofs.Loans.{Entry, Pass, value, lent, shown, Ghosts, lfts, shares, denots, valss, args, left-by, asks, free, calls-with}
 use Rattle.value_types.proofs.Types.{word, nothing, sched, coreId, optionTid, tick, decided, ticked}
-use Rattle.symexec.proofs.Law.{Param, by, mut, shr, held, finish, function-meets}
+use Rattle.walkkit.proofs.Law.{Param, by, mut, shr, held, finish, function-meets}
 use Rattle.sched_force.proofs.force_switch.Key.{name as #sched-force·force-switch}
 use Rattle.sched_force.proofs.force_switch as f
 use Rattle.sched_force.proofs.force_switch.Statement as stated

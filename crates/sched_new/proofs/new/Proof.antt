@@ -1,4 +1,4 @@
--- `sched_new::new` meets its contract. It only reads lengths, lends and calls: `symexec` has its entry, its loans and its exit; what stands here is which slices each call takes, and what its contract says.
+-- `sched_new::new` meets its contract. It only reads lengths, lends and calls: `walkkit` has its entry, its loans and its exit; what stands here is which slices each call takes, and what its contract says.
 use mathlib.Core.Path.{_≡_, refl}
 use Prim.Native.Nat.{ℕ, _≤_}
 use mathlib.Core.List.{[], _∷_, List}
@@ -42,10 +42,10 @@ use Rattle.sched_new.proofs.set_first.Met as setting-thm
 use Rattle.new_plan.proofs.new_finished as finishing
 use Rattle.new_plan.proofs.new_finished.Symbol as finishing-def
 use Rattle.new_plan.proofs.new_finished.Met as finishing-thm
-use Rattle.symexec.proofs.ByValue.{ByVal, enum-by, known}
-use Rattle.symexec.proofs.Loans.{Pass, value, lent, lfts, shares, denots, valss, args, left-by, asks, free, calls-with}
+use Rattle.walkkit.proofs.ByValue.{ByVal, enum-by, known}
+use Rattle.walkkit.proofs.Loans.{Pass, value, lent, lfts, shares, denots, valss, args, left-by, asks, free, calls-with}
 use Rattle.value_types.proofs.Types.{word, number, nothing, threadInfo}
-use Rattle.symexec.proofs.Law.{Param, by, mut, shr, held, finish, function-meets}
+use Rattle.walkkit.proofs.Law.{Param, by, mut, shr, held, finish, function-meets}
 use Rattle.sched_new.proofs.Types.{config, capacities, created}
 use Rattle.sched_new.proofs.new.Key.{name as #sched-new·new}
 use Rattle.sched_new.proofs.new as f

@@ -1,4 +1,4 @@
--- `sched_tick::end_tick` meets its contract. It only lends and calls, so that the law of `symexec` has its entry, its loans and its exit; what stands here is which slices each call takes, and what its contract says.
+-- `sched_tick::end_tick` meets its contract. It only lends and calls, so that the law of `walkkit` has its entry, its loans and its exit; what stands here is which slices each call takes, and what its contract says.
 use mathlib.Core.Path.{_≡_, refl}
 use Prim.Native.Nat.{ℕ, _+_, _<_, _≤_, _^_}
 use mathlib.Core.List.{[], _∷_, List}
@@ -56,9 +56,9 @@ use Rattle.threads.proofs.apply_moves.Met as apply-thm
 use Rattle.tick_plan.proofs.tick.ticked as answer
 use Rattle.tick_plan.proofs.tick.ticked.Symbol as answer-def
 use Rattle.tick_plan.proofs.tick.ticked.Met as answer-thm
-use Rattle.symexec.proofs.ByValue.{ByVal, known}
-use Rattle.symexec.proofs.Loans.{Pass, value, lent, shown, lfts, shares, denots, valss, args, left-by, asks, free, calls-with}
-use Rattle.symexec.proofs.Law.{Param, by, mut, shr, held, finish, function-meets}
+use Rattle.walkkit.proofs.ByValue.{ByVal, known}
+use Rattle.walkkit.proofs.Loans.{Pass, value, lent, shown, lfts, shares, denots, valss, args, left-by, asks, free, calls-with}
+use Rattle.walkkit.proofs.Law.{Param, by, mut, shr, held, finish, function-meets}
 use Rattle.value_types.proofs.Types.{word, nothing, sched, tick, coreStates, decided, ticked}
 use Rattle.sched_tick.proofs.end_tick.Key.{name as #sched-tick·end-tick}
 use Rattle.sched_tick.proofs.end_tick as f

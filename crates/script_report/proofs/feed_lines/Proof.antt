@@ -43,12 +43,12 @@ use Rattle.model.specs.declared.ThreadInfo.{ThreadInfo}
 use Rattle.report_plan.specs.declared.Progress.{Progress}
 use Rattle.script_report.specs.Reporting.{LinesAsked}
 use Rattle.walkkit.proofs.Count.{whiles}
-use Rattle.callkit.proofs.Returned.{Returns, calls-to}
-use Rattle.callkit.proofs.Spelled.{fnBy, localTy, Typed}
+use Rattle.walkkit.proofs.Returned.{Returns, calls-to}
+use Rattle.walkkit.proofs.Spelled.{fnBy, localTy, Typed}
 use Rattle.model.proofs.ThreadInfo as T
 use Rattle.report_plan.proofs.Progress as S
 use Rattle.report_plan.proofs.Progress.Laws as S′
-use Rattle.sched.proofs.Locals.{envOf, Others, allocs-all, frees-all}
+use Rattle.walkkit.proofs.Locals.{envOf, Others, allocs-all, frees-all}
 use Rattle.sched.proofs.Memory.{At, Lists, Long, slice}
 use Rattle.script_report.proofs.Looping.{Asked, Made, made-none, next-asked, made-next, finish-asked, lines-done}
 use Rattle.script_report.proofs.Feeding as Feeding

@@ -42,8 +42,8 @@ use Rattle.feed_plan.specs.declared.Line.{Line}
 use Rattle.report_plan.specs.declared.Progress.{Progress}
 use Rattle.report_plan.specs.Turning.{NextAsked, NextDone}
 use Rattle.walkkit.proofs.Again.{at-list}
-use Rattle.callkit.proofs.Returned.{Returns, calls-to}
-use Rattle.callkit.proofs.Spelled.{fnBy, Typed}
+use Rattle.walkkit.proofs.Returned.{Returns, calls-to}
+use Rattle.walkkit.proofs.Spelled.{fnBy, Typed}
 use Rattle.model.proofs.ThreadInfo as T
 use Rattle.report_plan.proofs.Progress as S
 use Rattle.report_plan.proofs.Progress.Laws as S′
@@ -56,7 +56,7 @@ use Rattle.feed_plan.proofs.Line.Laws as Q′
 use Rattle.feed_plan.proofs.Next as N
 use Rattle.feed_plan.proofs.Next.Laws as N′
 use Rattle.walkkit.proofs.Lent.{Gives, calls-by}
-use Rattle.sched.proofs.Locals.{allocs-all, frees-all}
+use Rattle.walkkit.proofs.Locals.{allocs-all, frees-all}
 use Rattle.sched.proofs.Memory.{At, Lists, Long, slice, Token, Slice, Last, Whole, Gone}
 use Rattle.feed.proofs.Advancing as Advancing
 use Rattle.script_report.proofs.Parts.{ReportOf, report-of-call, LineOf, line-of-call}

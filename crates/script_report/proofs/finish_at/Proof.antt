@@ -46,8 +46,8 @@ use Rattle.report_plan.specs.declared.Progress.{Progress}
 use Rattle.report_plan.specs.Turning.{FinishAsked}
 use Rattle.walkkit.proofs.Again.{at-list}
 use Rattle.walkkit.proofs.Lent.{Gives, calls-by}
-use Rattle.callkit.proofs.Returned.{Returns, calls-to}
-use Rattle.callkit.proofs.Spelled.{fnBy, Typed}
+use Rattle.walkkit.proofs.Returned.{Returns, calls-to}
+use Rattle.walkkit.proofs.Spelled.{fnBy, Typed}
 use Rattle.model.proofs.ThreadInfo as T
 use Rattle.report_plan.proofs.Progress as S
 use Rattle.report_plan.proofs.Progress.Laws as S′
@@ -55,7 +55,7 @@ use Rattle.feed_plan.proofs.Report as B
 use Rattle.feed_plan.proofs.Report.Laws as B′
 use Rattle.record_reads.proofs.totals.Totals as N
 use Rattle.record_reads.proofs.totals.Totals.Laws as N′
-use Rattle.sched.proofs.Locals.{allocs-all, frees-all}
+use Rattle.walkkit.proofs.Locals.{allocs-all, frees-all}
 use Rattle.sched.proofs.Memory.{At, slice, Token, Slice, Last}
 use Rattle.feed.proofs.Parts.{Count, count-call}
 use Rattle.feed.proofs.Totaling as Totaling

@@ -43,14 +43,14 @@ use Rattle.model.specs.declared.ThreadInfo.{ThreadInfo}
 use Rattle.feed_plan.specs.Meant.{Roomy}
 use Rattle.report_plan.specs.declared.Progress.{Progress}
 use Rattle.walkkit.proofs.Lent.{Gives, calls-by}
-use Rattle.callkit.proofs.Returned.{Returns, calls-to}
-use Rattle.callkit.proofs.Spelled.{fnBy, Typed}
+use Rattle.walkkit.proofs.Returned.{Returns, calls-to}
+use Rattle.walkkit.proofs.Spelled.{fnBy, Typed}
 use Rattle.model.proofs.ThreadInfo as T
 use Rattle.rcfg.proofs.Written as R
 use Rattle.rcfg.proofs.Written.Laws as R′
 use Rattle.report_plan.proofs.Progress as S
 use Rattle.report_plan.proofs.Progress.Laws as S′
-use Rattle.sched.proofs.Locals.{allocs-all, frees-all}
+use Rattle.walkkit.proofs.Locals.{allocs-all, frees-all}
 use Rattle.sched.proofs.Memory.{At, Lists, slice}
 use Rattle.script_report.proofs.Looping.{Asked, script-asked, script-done}
 use Rattle.script_report.proofs.Feeding.{Held, countsOf, Script, Buffer, Records, Four, refs, ref-vals, gathers}

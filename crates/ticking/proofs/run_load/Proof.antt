@@ -50,9 +50,9 @@ use Rattle.ticking.specs.Load.{due, LoadDone}
 use Rattle.walkkit.proofs.Again.{at-list}
 use Rattle.walkkit.proofs.Lent.{Gives, calls-by}
 use Rattle.walkkit.proofs.Plain.{settled, settled-is}
-use Rattle.callkit.proofs.Returned.{Returns, calls-to}
-use Rattle.callkit.proofs.Spelled.{fnBy, Typed}
-use Rattle.sched.proofs.Locals.{allocs-all, frees-all}
+use Rattle.walkkit.proofs.Returned.{Returns, calls-to}
+use Rattle.walkkit.proofs.Spelled.{fnBy, Typed}
+use Rattle.walkkit.proofs.Locals.{allocs-all, frees-all}
 use Rattle.sched.proofs.Memory.{At, Lists}
 use Rattle.replay.proofs.Creating as Creating
 use Rattle.settings.proofs.SchedConfig as F

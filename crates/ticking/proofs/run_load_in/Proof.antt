@@ -49,9 +49,9 @@ use Rattle.ticking.specs.Load.{LoadDone}
 use Rattle.ticking.specs.declared.LoadedArray.{LoadedArray}
 use Rattle.walkkit.proofs.Again.{at-list}
 use Rattle.walkkit.proofs.Lent.{Gives, calls-by, call-value}
-use Rattle.callkit.proofs.Returned.{Returns, calls-to}
-use Rattle.callkit.proofs.Spelled.{fnBy, localTy, Typed}
-use Rattle.sched.proofs.Locals.{allocs-all, frees-all}
+use Rattle.walkkit.proofs.Returned.{Returns, calls-to}
+use Rattle.walkkit.proofs.Spelled.{fnBy, localTy, Typed}
+use Rattle.walkkit.proofs.Locals.{allocs-all, frees-all}
 use Rattle.sched.proofs.Memory.{At, Lists, slice}
 use Rattle.ticking.proofs.Relending.{place}
 use Rattle.ticking.proofs.Lending as K

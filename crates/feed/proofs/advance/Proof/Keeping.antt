@@ -31,9 +31,9 @@ use denote.Enum.Laws as EL
 use denote.Triple.Statement.{Triple}
 use Rattle.model.proofs.ThreadInfo as T
 use Rattle.walkkit.proofs.Lent.{Gives, calls-by}
-use Rattle.callkit.proofs.Returned.{Returns, calls-to}
-use Rattle.callkit.proofs.Spelled.{fnBy, Typed}
-use Rattle.sched.proofs.Locals.{allocs-all, frees-all, chooses}
+use Rattle.walkkit.proofs.Returned.{Returns, calls-to}
+use Rattle.walkkit.proofs.Spelled.{fnBy, Typed}
+use Rattle.walkkit.proofs.Locals.{allocs-all, frees-all, chooses}
 use Rattle.sched.proofs.Memory.{At, Lists, Long, slice, Whole, Gone}
 use Rattle.feed_plan.specs.declared.Report.{Report}
 use Rattle.feed_plan.specs.declared.Line.the-variants as Cases

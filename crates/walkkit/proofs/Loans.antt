@@ -1,3 +1,11 @@
+-- The slices that a function holds, as one list of entries, and a call that takes some of them: each is lent for the call by its place in the list, for a lifetime made for it, and is back in its place after the call.
+--     Slice R          a slice of elements of R that is held: lifetime, share, name, block, offset, count.        Elements s       a list of its elements, as long as its count
+--     Entry            it is held by `&mut` (`by-mut`) or by `&` (`by-shr`)
+--     Pass             what a caller writes for an argument: `value k`, or the place of a slice that is handed on by `&mut` (`lent i`) or by `&` (`shown i`).        args es ss       the arguments that this makes
+--     left-by          what is held after the call, the lent slices at the lists that the callee left
+--     calls-with       a call, with the callee's theorem in place: what it asks (`asks`, with the proof, or `free`), the type of its result, what it says of the result and the last lists
+--     Cited            a callee's theorem as a lemma at slices that are variables.        calls-citing     a call that cites one: what the callee asks and says is read off the lemma
+-- Assumes `Given`, and that the table of calls is monotone under a frame.
 use mathlib.Core.Path.{_≡_, refl, sym, subst, ap, _∙_}
 use Prim.Native.Nat.{ℕ, zero, suc}
 use mathlib.Core.List.{List, [], _∷_, _++_}
@@ -18,9 +26,9 @@ use denote.RattleType.{RattleType, Denots, Valss, owns}
 use denote.Laws.{Is, shows, Typed}
 use denote.Slice.{sliceVal, MutSlice, ShrSlice, Room, finally, shr-slice-copy}
 use denote.Steps.{peeks, heard}
-use Rattle.symexec.proofs.ByValue.{ByVal, Known}
-use Rattle.symexec.proofs.Symbolic.{Store, holds, CallVc, no-type, Unsupported}
+use Rattle.walkkit.proofs.ByValue.{ByVal, Known}
+use Rattle.walkkit.proofs.Symbolic.{Store, holds, CallVc, no-type, Unsupported}
 use Rattle.walkkit.proofs.Again.{at-list, LentAgain, SharedAgain, relends, regains, reshares, unshares}
 
 pub record Slice (R : RattleType) : Type 2 where
   pub lv : Lifetime
@@ -284,7 +292,7 @@ module _ {M : Type 1} (𝓤 : URA M) (H : Heap 𝓤) (A : Atoms 𝓤) where
       abbrev pub Told : Ghosts xs → Val → Item 𝓤
       Told g w = later (some (λ (r : Res .Denot). (raw (toks 𝓤 A (ref-count xs) (lfts xs g) (shares xs)) ⊛ ‵ (Res .own r (w ∷ []))) ⊛ some (λ (ws : Lasts xs). ‵ (lasts-of xs g ws) ⊛ raw (fact 𝓤 (φ r ws)))))
 
-      -- the callee's theorem at these arguments: by computation it is that theorem at `((lfts xs g, shs xs, tt, dens 0 xs g, vss 0 xs g), tt)`
+      -- the callee's theorem at these arguments: by computation it is that theorem at `((lfts xs g, shares xs, tt, denots 0 xs g, valss 0 xs g), tt)`
       abbrev pub Meets-at : Type 1
       Meets-at = (g : Ghosts xs) → ent 𝓤 (mean 𝓤 H A (Asked g)) (C f (argv xs) (λ w. mean 𝓤 H A (Told g w)))
 
@@ -433,7 +441,7 @@ module _ {M : Type 1} (𝓤 : URA M) (H : Heap 𝓤) (A : Atoms 𝓤) where
   met-of (asks φ p) = factI 𝓤 φ (emp 𝓤) p
   met-of free = id⊢ 𝓤 (emp 𝓤)
 
-  -- ---- the call, as `Machine.antt` asks it. es is what is held and ss what is passed; req is what the callee's `requires` asks, with its proof
+  -- ---- the call, as `Symbolic.antt` asks it. es is what is held and ss what is passed; req is what the callee's `requires` asks, with its proof
   module _ (W : Given 𝓤 H A) (es : List Entry) (ss : List (Pass 𝓤 H A)) where
     abbrev xs : List Arg
     xs = args 𝓤 H A es ss

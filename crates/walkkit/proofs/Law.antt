@@ -1,3 +1,12 @@
+-- THE LAW for a function that lends, matches, loops and calls: from its contract to the verification condition of its code (`Symbolic.antt`) over the slices that it holds (`Loans.antt`).
+--     Param            a parameter: `by` a value, `mut` a `&mut [T]`, `shr` a `&[T]`. Each reference has a lifetime of its own, numbered in order, as where none is written
+--     sig, ended       the signature that a list of parameters makes, every last value said. A function's own is this by computation
+--     Sound            what is known of the arguments: a value's machine value is its own, and a slice fits the memory
+--     held             the slices at entry.        entries-at … ws      the same, at the lists ws
+--     finish           the end: the slices at their last lists give what the contract says
+--     function-meets   THE LAW: the function meets its contract if its code's verification condition is shown, from the slices at entry to the end
+--     owes             a fact that the code asks on its way (that a copied value is of its local's type, that a sum fits), before what it asks then
+-- Assumes `Given`.
 use mathlib.Core.Path.{_≡_, refl, sym, subst, ap, _∙_}
 use Prim.Native.Nat.{ℕ, zero, suc}
 use mathlib.Core.List.{List, [], _∷_, _++_}
@@ -26,9 +35,12 @@ use denote.Triple.Spec.{Meets}
 use denote.Triple.Clauses.{Clauses, Ended, Lasts, atExit, closing}
 use denote.Triple.Walked.{says, needs, Stay, Stays, stay-dropped, fitsOf, hasOf, walkOf, Walks, Goes, AllGo, goes-dropped, ends-at, walked, walk-meets}
 use native.Mathlib.Omega.{arith}
-use Rattle.symexec.proofs.Loans.{Slice, Elements, HeldMut, HeldShr, Entry, by-mut, by-shr, items}
-use Rattle.symexec.proofs.ByValue.{ByVal, Known}
-use Rattle.symexec.proofs.Symbolic.{empty, Passed, Passes, initial, local-types, tail-of, ReturnVc, Vc, vc-fn-sound}
+use Rattle.walkkit.proofs.Loans.{Slice, Elements, HeldMut, HeldShr, Entry, by-mut, by-shr, items}
+use Rattle.walkkit.proofs.ByValue.{ByVal, Known}
+use Rattle.walkkit.proofs.Symbolic.{empty, Passed, Passes, initial, local-types, tail-of, ReturnVc, Vc, vc-fn-sound}
+
+abbrev pub owes : {φ : Type 0} {K : Type 2} → φ → K → φ × K
+owes p k = (p, k)
 
 pub data Param {M : Type 1} (𝓤 : URA M) (H : Heap 𝓤) (A : Atoms 𝓤) : Type 2 where
   by : ByVal 𝓤 H A → Param 𝓤 H A

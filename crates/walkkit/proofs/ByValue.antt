@@ -1,3 +1,8 @@
+-- A type that is passed by value, with the laws that symbolic execution asks of it: its machine value, that owning shows it and that it owns nothing, and that a contract says nothing of it at exit.
+--     ByVal            the record.        struct-by, enum-by, array-by, uint-by, unit-by      of a declared struct, of a declared enum, of an array, of an unsigned integer, of `()`
+--                      For a declared type and an array the last two arguments are `(λ x. tt)` and `(λ x f. refl)`
+--     Known B          a value that the function has: its denotation, its machine value, and that the one is the other's.        known      of a parameter
+-- Assumes `Given` where it makes one.
 use mathlib.Core.Path.{_≡_, refl}
 use Prim.Native.Nat.{ℕ}
 use mathlib.Core.List.{[], _∷_}

@@ -29,11 +29,11 @@ use denote.Index.{row, whole-in, whole-out}
 use denote.Lend.{Held, lends-slice, slice-back}
 use denote.Slice.{sliceVal, MutSlice, Room, finally, res-finally, codedHoleys, heres}
 use denote.Steps.{only, peeks}
 use Rattle.walkkit.proofs.Again.{at-list}
 use Rattle.walkkit.proofs.Local.{array-in, array-out}
-use Rattle.symexec.proofs.ByValue.{ByVal, Known}
-use Rattle.symexec.proofs.Symbolic.{Store, holds, CallVc, no-type, Lent-locals, Apart, put-back}
-use Rattle.symexec.proofs.Loans.{Slice, Elements, HeldMut, Arg, argv, Lasts, Lengths, Cited, Got, Knows, after, loan-call, Entry, by-mut, Pass, items, args, Lendable, all-ready, left-by, left-is}
+use Rattle.walkkit.proofs.ByValue.{ByVal, Known}
+use Rattle.walkkit.proofs.Symbolic.{Store, holds, CallVc, no-type, Lent-locals, Apart, put-back}
+use Rattle.walkkit.proofs.Loans.{Slice, Elements, HeldMut, Arg, argv, Lasts, Lengths, Cited, Got, Knows, after, loan-call, Entry, by-mut, Pass, items, args, Lendable, all-ready, left-by, left-is}
 
 pub record LocalArray {M : Type 1} (𝓤 : URA M) (H : Heap 𝓤) (A : Atoms 𝓤) : Type 2 where
   pub B : ByVal 𝓤 H A

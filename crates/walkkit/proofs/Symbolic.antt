@@ -1,3 +1,12 @@
+-- Symbolic execution of a function's MIR: what the code asks of a proof is computed from it, as a type, the verification condition. The locals are a store, a list of what each holds; the code is run on the store by computation, and the
+-- rest of the memory is one assertion, the frame, which only a call changes.
+--     Content, Store   what a local holds: nothing yet, a machine value, or nothing that can be reached because it is lent.        Locals E σ     the locals' memory
+--     Vc b σ F K       the verification condition of the code b where the store is σ and the frame F; K is what is asked where it ends.        VcFn f vs F End    the same of a function, from its arguments to its result
+--     CallVc           of a call: the locals that it lends, what is had of the callee, and how the code goes on with what it returned and left
+--     LoopVc           of a loop: its invariant, the store and the frame at each index, and a measure that falls. At the head of the loop values may be forgotten (`Forgets`)
+--     vc-fn-sound      THE SOUNDNESS: whoever shows `VcFn` has `WpFn`
+-- Code that it does not take asks `Unsupported`, which nobody shows: an element of a slice, a place other than a local, a field of one or what a field points at, and casts.
+-- Assumes `Given`, and that the table of calls is monotone under a frame.
 use mathlib.Core.Path.{_≡_, refl, sym, subst, ap, _∙_}
 use Prim.Native.Nat.{ℕ, zero, suc, _+_, _^_, _<_}
 use mathlib.Core.Bool.{Bool, true, false, not, _&&_}

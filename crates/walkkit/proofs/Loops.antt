@@ -13,7 +13,7 @@ use mir.Syntax.{Ty, Width}
 use mir.Val.{Val, bits, Fits}
 use base.Logic.{SProp, ent, id⊢}
 use prog.Wp.{Heap, Calls, Out}
-use Rattle.symexec.proofs.Symbolic.{Content, empty, holds, away, Store, Forgets, Again, turnK, LoopVc}
+use Rattle.walkkit.proofs.Symbolic.{Content, empty, holds, away, Store, Forgets, Again, turnK, LoopVc}
 
 -- ---- what the locals hold where a turn begins
 -- of what they hold where the loop is reached: the first k stay, and the others, which are the loop's own and temporaries, are forgotten

@@ -1,2 +1,0 @@
-pub mod Returned
-pub mod Spelled

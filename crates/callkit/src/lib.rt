@@ -1,1 +1,0 @@
-// What proofs by hand of the calls share (proofs/); it has no code.
