@@ -22,7 +22,7 @@ use Rattle.rings.specs.Ring.{capacity}
 use Rattle.rings.specs.Timeline.{segmentsIn}
 use Rattle.model.specs.declared.ThreadInfo.{ThreadInfo}
 use Rattle.state.specs.declared.Sched.{Sched}
-use Rattle.state.specs.State.{firsts, statesOf, coreFrom, meant, noTicks, noPos, laneWords, logWords}
+use Rattle.state.specs.State.{firsts, statesOf, coreFrom, meantAt, noTicks, noPos, laneWords, logWords}
 use Rattle.accounts.specs.Charging.{TicksCharged, LanesCharged}
 use Rattle.accounts.specs.Log.{movedLog, wokenLog}
 
@@ -102,15 +102,15 @@ module _ (n : ℕ) (states : List Program.CoreState) (cores : ℕ → Core) (sam
 module _ (s : Sched) (ts : List ThreadInfo) (qs ls ws : List ℕ) where
   pub meant-ticks :
       (tick : ℕ) (new : List Counters.CoreTicks) → TicksCharged (s .cores) (statesOf (s .states)) (s .ticks) new
-      → firsts (λ i. coreTicksMeant (getD new i noTicks)) (s .cores) ≡ charge (s .capacities .segments) tick (meant s ts qs ls ws .cores) (meant s ts qs ls ws .accounts) .ticks
-  unfolding charge meant coreFrom
+      → firsts (λ i. coreTicksMeant (getD new i noTicks)) (s .cores) ≡ charge (s .capacities .segments) tick (meantAt s ts qs ls ws .cores) (meantAt s ts qs ls ws .accounts) .ticks
+  unfolding charge meantAt coreFrom
   meant-ticks tick new h = charged-ticks (s .cores) (statesOf (s .states)) (coreFrom (statesOf (s .states)) (s .exits) (s .blocks) (s .yields) (s .progressed)) (λ i l. refl) (s .ticks) new h
 
   pub meant-timelines :
       (tick : ℕ) (ws' : List ℕ) (pos' : List RingPos) → LanesCharged (s .capacities .segments) (s .cores) tick (statesOf (s .states)) ws ws' (s .lanes) pos'
       → firsts (λ i. segmentsIn (laneWords (s .capacities .segments) i ws') (getD pos' i noPos)) (s .cores)
-      ≡ charge (s .capacities .segments) tick (meant s ts qs ls ws .cores) (meant s ts qs ls ws .accounts) .timelines
-  unfolding charge meant coreFrom
+      ≡ charge (s .capacities .segments) tick (meantAt s ts qs ls ws .cores) (meantAt s ts qs ls ws .accounts) .timelines
+  unfolding charge meantAt coreFrom
   meant-timelines tick ws' pos' h =
       charged-timelines (s .cores) (statesOf (s .states)) (coreFrom (statesOf (s .states)) (s .exits) (s .blocks) (s .yields) (s .progressed)) (λ i l. refl) (s .capacities .segments) tick ws ws' (s .lanes) pos' h
 

@@ -12,7 +12,8 @@ use Rattle.model.specs.declared.ThreadInfo.{ThreadInfo}
 use Rattle.model.specs.Calls.{Call, Answer, refused, ok, refusal, check}
 use Rattle.model.specs.Reading.{callAnswerMeant}
 use Rattle.state.specs.declared.Sched.{Sched}
-use Rattle.state.specs.State.{meant, Valid}
+use Rattle.state.specs.Memory.{memory}
+use Rattle.state.specs.State.{meantAt, Valid}
 use Rattle.state.specs.Done.{Done}
 use Rattle.state.proofs.Doing.{done-refused}
 use Rattle.checks.specs.Check.{checkMeant}
@@ -29,7 +30,7 @@ ok-unrefused a e n f = let z : _≡_ {A = ℕ} 0 1 = cc in omega arith
 
 -- a check that refused: nothing is done
 pub refused-done :
-    (c : Call) (s : Sched) (ts : List ThreadInfo) (qs ps ls ws : List ℕ) → Valid s ts qs ps ls ws → (a : CallAnswer) (x : Refusal) (r : Option ℕ) → a ≡ CallCases.Refused x → checkMeant a ≡ r
-    → refusal (meant s ts qs ls ws) c ≡ r → Done c (callAnswerMeant a) s s ts ts qs qs ps ps ls ls ws ws
+    (c : Call) (s : Sched) (ts : List ThreadInfo) (qs ps ls ws : List ℕ) → Valid s (memory ts qs ps ls ws) → (a : CallAnswer) (x : Refusal) (r : Option ℕ) → a ≡ CallCases.Refused x → checkMeant a ≡ r
+    → refusal (meantAt s ts qs ls ws) c ≡ r → Done c (callAnswerMeant a) s s (memory ts qs ps ls ws) (memory ts qs ps ls ws)
 refused-done c s ts qs ps ls ws v a x r e h k =
-    subst (λ (y : Answer). Done c y s s ts ts qs qs ps ps ls ls ws ws) (sym (ap callAnswerMeant e)) (done-refused c s ts qs ps ls ws v (refusalNumber x) (k ∙ sym h ∙ ap checkMeant e))
+    subst (λ (y : Answer). Done c y s s (memory ts qs ps ls ws) (memory ts qs ps ls ws)) (sym (ap callAnswerMeant e)) (done-refused c s ts qs ps ls ws v (refusalNumber x) (k ∙ sym h ∙ ap checkMeant e))

@@ -24,7 +24,8 @@ use Rattle.phases.specs.Cores.{passOf}
 use Rattle.charges.specs.Charging.{coresMeant}
 use Rattle.threads.specs.Slice.{threadsIn, Front, AllChargeable}
 use Rattle.state.specs.declared.Sched.{Sched}
-use Rattle.state.specs.State.{firsts, coreFrom, statesOf, laneStart, meant, Marks, Valid}
+use Rattle.state.specs.Memory.{memory}
+use Rattle.state.specs.State.{firsts, coreFrom, statesOf, laneStart, meantAt, Marks, Valid}
 use Rattle.state.specs.Done.{Frame, Same, Done}
 use Rattle.state.proofs.Firsts.{length-firsts, firsts-same}
 use Rattle.state.proofs.Doing.{done-refused, done-taken}
@@ -86,18 +87,18 @@ closing e =
       closed = true;
     }
 
-module _ (s : Sched) (ts : List ThreadInfo) (qs ps ls ws : List ℕ) (v : Valid s ts qs ps ls ws) (i : ℕ) (e : Answered) (ts₁ : List ThreadInfo) (qs₁ ls₁ : List ℕ)
-    (d : Done (exit (closeCore s i .0)) (callAnswerMeant (e .answer)) s (e .sched) ts ts₁ qs qs₁ ps ps ls ls₁ ws ws) where
+module _ (s : Sched) (ts : List ThreadInfo) (qs ps ls ws : List ℕ) (v : Valid s (memory ts qs ps ls ws)) (i : ℕ) (e : Answered) (ts₁ : List ThreadInfo) (qs₁ ls₁ : List ℕ)
+    (d : Done (exit (closeCore s i .0)) (callAnswerMeant (e .answer)) s (e .sched) (memory ts qs ps ls ws) (memory ts₁ qs₁ ps ls₁ ws)) where
   abbrev M : State
-  M = meant s ts qs ls ws
+  M = meantAt s ts qs ls ws
 
   abbrev s₁ : Sched
   s₁ = e .sched
 
   abbrev M₁ : State
-  M₁ = meant s₁ ts₁ qs₁ ls₁ ws
+  M₁ = meantAt s₁ ts₁ qs₁ ls₁ ws
 
-  abbrev v₁ : Valid s₁ ts₁ qs₁ ps ls₁ ws
+  abbrev v₁ : Valid s₁ (memory ts₁ qs₁ ps ls₁ ws)
   v₁ = d .valid
 
   ---- refused: the core is not there, and nothing is done
@@ -114,7 +115,7 @@ module _ (s : Sched) (ts : List ThreadInfo) (qs ps ls ws : List ℕ) (v : Valid 
     exit-refused : callAnswerMeant (e .answer) ≡ refused 4
     exit-refused = d .answer ∙ step-refused M (closeCore s i .0) 4 exit-nowhere
 
-    same : Same s s₁ ts ts₁ qs qs₁ ps ps ls ls₁ ws ws
+    same : Same s s₁ (memory ts qs ps ls ws) (memory ts₁ qs₁ ps ls₁ ws)
     same = d .same 4 exit-refused
 
     none-charged : chargedThreads e ≡ 0
@@ -147,19 +148,19 @@ module _ (s : Sched) (ts : List ThreadInfo) (qs ps ls ws : List ℕ) (v : Valid 
 
     -- what the exit leaves as it was
     now-kept : s₁ .now .0 ≡ s .now .0
-    unfolding exited meant
+    unfolding exited meantAt
     now-kept = ap (λ (x : State). x .now) state-exited
 
     closed-kept : s₁ .closed ≡ s .closed
-    unfolding exited meant
+    unfolding exited meantAt
     closed-kept = ap (λ (x : State). x .closed) state-exited
 
     segments-kept : s₁ .capacities .segments ≡ s .capacities .segments
-    unfolding exited meant
+    unfolding exited meantAt
     segments-kept = ap (λ (x : State). x .config .capS) state-exited
 
     cores-kept : s₁ .cores ≡ s .cores
-    unfolding exited meant
+    unfolding exited meantAt
     cores-kept =
         let own = coreFrom (statesOf (s .states)) (s .exits) (s .blocks) (s .yields) (s .progressed) in
         sym (length-firsts (coreFrom (statesOf (s₁ .states)) (s₁ .exits) (s₁ .blocks) (s₁ .yields) (s₁ .progressed)) (s₁ .cores)) ∙ ap (λ (x : State). length (x .cores)) state-exited
@@ -196,7 +197,7 @@ module _ (s : Sched) (ts : List ThreadInfo) (qs ps ls ws : List ℕ) (v : Valid 
 
   module _ (ts' : List ThreadInfo) (f : Front (chargedThreads e) (chargeThreads (coresMeant (statesOf (s₁ .states))) 0 (threadsIn ts₁ (chargedThreads e))) ts₁ ts')
       (s' : Sched) (a : CallAnswer) (ws' : List ℕ) (fin : CloseFinished s i e ws ws' s' a) where
-    refused-done : (n : ℕ) → closeRefusal s i ≡ some n → Done (close i) (callAnswerMeant a) s s' ts ts' qs qs₁ ps ps ls ls₁ ws ws'
+    refused-done : (n : ℕ) → closeRefusal s i ≡ some n → Done (close i) (callAnswerMeant a) s s' (memory ts qs ps ls ws) (memory ts' qs₁ ps ls₁ ws')
     unfolding closeRefusal
     refused-done n h =
         let k = same n h in
@@ -250,7 +251,7 @@ module _ (s : Sched) (ts : List ThreadInfo) (qs ps ls ws : List ℕ) (v : Valid 
       front = subst (λ (n : ℕ). Front n (chargeThreads (coresMeant (statesOf (s₁ .states))) 0 (threadsIn ts₁ n)) ts₁ ts') (all-charged h) f
 
       threads-charged : threadsIn ts' (s₁ .threads) ≡ chargeThreads (M₁ .cores) 0 (threadsIn ts₁ (s₁ .threads))
-      unfolding meant
+      unfolding meantAt
       threads-charged = front .front ∙ charge-used (s₁ .states) (s₁ .exits) (s₁ .blocks) (s₁ .yields) (s₁ .progressed) (s₁ .cores) (v₁ .sizes .cores) (v₁ .marks .unused) (threadsIn ts₁ (s₁ .threads))
 
       long : length ts' ≡ length ts₁
@@ -259,13 +260,13 @@ module _ (s : Sched) (ts : List ThreadInfo) (qs ps ls ws : List ℕ) (v : Valid 
           (omega (arith, v₁ .sizes .inUse, v₁ .sizes .threads))
 
       priorities : take (s₁ .threads) ps ≡ prioritiesOf (threadsIn ts' (s₁ .threads))
-      unfolding meant threadsIn
+      unfolding meantAt threadsIn
       priorities = v₁ .priorities ∙ sym (ap prioritiesOf threads-charged ∙ priority-charged (M₁ .cores) 0 (threadsIn ts₁ (s₁ .threads)))
 
       ---- the state
 
-      accounts-charged : meant next ts' qs₁ ls₁ ws' .accounts ≡ charged M₁
-      unfolding meant threadsIn charge
+      accounts-charged : meantAt next ts' qs₁ ls₁ ws' .accounts ≡ charged M₁
+      unfolding meantAt threadsIn charge
       accounts-charged =
           λ j. record {
             threads = threads-charged j;
@@ -275,15 +276,15 @@ module _ (s : Sched) (ts : List ThreadInfo) (qs ps ls ws : List ℕ) (v : Valid 
             contextSwitches = s₁ .«context_switches»;
           }
 
-      state-closed : meant next ts' qs₁ ls₁ ws' ≡ closing M₁
-      unfolding meant
+      state-closed : meantAt next ts' qs₁ ls₁ ws' ≡ closing M₁
+      unfolding meantAt
       state-closed = λ j. record { config = M₁ .config; cores = cores-closed j; queue = M₁ .queue; accounts = accounts-charged j; now = C .next j; closed = true }
 
-      state-is : meant next ts' qs₁ ls₁ ws' ≡ accept M (close i) .state
+      state-is : meantAt next ts' qs₁ ls₁ ws' ≡ accept M (close i) .state
       unfolding accept
       state-is = state-closed ∙ ap closing (state-exited h)
 
-      frame : Frame s next ts ts' qs qs₁ ps ps ls ls₁ ws ws'
+      frame : Frame s next (memory ts qs ps ls ws) (memory ts' qs₁ ps ls₁ ws')
       frame =
           let k : laneStart (s₁ .capacities .segments) (s₁ .cores) ≡ laneStart (s .capacities .segments) (s .cores) = rw (segments-kept h, cores-kept h) in
           record {
@@ -294,8 +295,8 @@ module _ (s : Sched) (ts : List ThreadInfo) (qs ps ls ws : List ℕ) (v : Valid 
             lanes = subst (λ (n : ℕ). drop n ws' ≡ drop n ws) k (C .charged .lanes .after);
           }
 
-      taken-next : Done (close i) (callAnswerMeant a) s next ts ts' qs qs₁ ps ps ls ls₁ ws ws'
-      unfolding accept meant threadsIn closeRefusal
+      taken-next : Done (close i) (callAnswerMeant a) s next (memory ts qs ps ls ws) (memory ts' qs₁ ps ls₁ ws')
+      unfolding accept meantAt threadsIn closeRefusal
       taken-next =
           let z = v₁ .sizes in
           let an : callAnswerMeant a ≡ ok = answer-taken a (fin .answer ∙ h) in
@@ -304,12 +305,12 @@ module _ (s : Sched) (ts : List ThreadInfo) (qs ps ls ws : List ℕ) (v : Valid 
           (record { eight = C .charged .eightLanes; events = v₁ .rings .events; segments = λ j l. C .charged .lanes .lanes j l .ok })
           marks (C .charged .eightTicks) priorities frame
 
-      taken-done : Done (close i) (callAnswerMeant a) s s' ts ts' qs qs₁ ps ps ls ls₁ ws ws'
-      taken-done = subst (λ (x : Sched). Done (close i) (callAnswerMeant a) s x ts ts' qs qs₁ ps ps ls ls₁ ws ws') (sym (C .is)) taken-next
+      taken-done : Done (close i) (callAnswerMeant a) s s' (memory ts qs ps ls ws) (memory ts' qs₁ ps ls₁ ws')
+      taken-done = subst (λ (x : Sched). Done (close i) (callAnswerMeant a) s x (memory ts qs ps ls ws) (memory ts' qs₁ ps ls₁ ws')) (sym (C .is)) taken-next
 
-    pub close-done : Done (close i) (callAnswerMeant a) s s' ts ts' qs qs₁ ps ps ls ls₁ ws ws'
+    pub close-done : Done (close i) (callAnswerMeant a) s s' (memory ts qs ps ls ws) (memory ts' qs₁ ps ls₁ ws')
     close-done = go (closeRefusal s i) refl
       where
-        go : (o : Option ℕ) → closeRefusal s i ≡ o → Done (close i) (callAnswerMeant a) s s' ts ts' qs qs₁ ps ps ls ls₁ ws ws'
+        go : (o : Option ℕ) → closeRefusal s i ≡ o → Done (close i) (callAnswerMeant a) s s' (memory ts qs ps ls ws) (memory ts' qs₁ ps ls₁ ws')
         go none h = taken-done h
         go (some n) h = refused-done n h

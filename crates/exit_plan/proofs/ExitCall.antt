@@ -34,7 +34,8 @@ use Rattle.threads.proofs.Waking.{wake-threads}
 use Rattle.accounts.specs.Log.{wokenLog}
 use Rattle.accounts.proofs.Figures.{log-capacity, woken-log, woken-timelines, woken-switches}
 use Rattle.state.specs.declared.Sched.{Sched}
-use Rattle.state.specs.State.{firsts, coreFrom, statesOf, meant, logWords, Marks, Valid}
+use Rattle.state.specs.Memory.{memory}
+use Rattle.state.specs.State.{firsts, coreFrom, statesOf, meantAt, logWords, Marks, Valid}
 use Rattle.state.specs.Done.{Done}
 use Rattle.state.proofs.Firsts.{coreAt-firsts}
 use Rattle.state.proofs.Doing.{done-refused, done-taken}
@@ -87,9 +88,9 @@ prios-finished : (now k : ℕ) (xs : List ThreadRecord) → map prio (update k (
 unfolding finished
 prios-finished now k xs = prios-update (finished now) (λ t. refl) k xs
 
-module _ (s : Sched) (ts : List ThreadInfo) (qs ps ls ws : List ℕ) (v : Valid s ts qs ps ls ws) (i : ℕ) where
+module _ (s : Sched) (ts : List ThreadInfo) (qs ps ls ws : List ℕ) (v : Valid s (memory ts qs ps ls ws)) (i : ℕ) where
   abbrev M : State
-  M = meant s ts qs ls ws
+  M = meantAt s ts qs ls ws
 
   ---- the call is taken
 
@@ -102,7 +103,7 @@ module _ (s : Sched) (ts : List ThreadInfo) (qs ps ls ws : List ℕ) (v : Valid 
     t = exitTid s i .0
 
     core-own : coreAt (M .cores) i ≡ coreFrom (statesOf (s .states)) (s .exits) (s .blocks) (s .yields) (s .progressed) i
-    unfolding meant
+    unfolding meantAt
     core-own = coreAt-firsts (coreFrom (statesOf (s .states)) (s .exits) (s .blocks) (s .yields) (s .progressed)) (s .cores) i (exit-core s i h)
 
     -- the thread of the core is the definition's
@@ -111,7 +112,7 @@ module _ (s : Sched) (ts : List ThreadInfo) (qs ps ls ws : List ℕ) (v : Valid 
     tid-on = ap (λ (c : Core). tidOf (holder (c .state))) core-own
 
     thread-there : t < s .threads
-    unfolding refusal coreStateOf tidOn CellsOK meant
+    unfolding refusal coreStateOf tidOn CellsOK meantAt
     thread-there =
         let r = check-rest 4 _ _ unrefused in
         let unclosed = check-none 11 _ _ r in
@@ -161,7 +162,7 @@ module _ (s : Sched) (ts : List ThreadInfo) (qs ps ls ws : List ℕ) (v : Valid 
       go (some n) h = rw (place-zero n h) (some-record s ts qs ps ls ws v)
 
   pub exit-fits : (x : ThreadRecord) → Fits (exitChange s i) x
-  unfolding meant limitNow
+  unfolding meantAt limitNow
   exit-fits x = go (exitRefusal s i) refl
     where
       go : (o : Option ℕ) → exitRefusal s i ≡ o → Fits (exitChange s i) x
@@ -193,7 +194,7 @@ module _ (s : Sched) (ts : List ThreadInfo) (qs ps ls ws : List ℕ) (v : Valid 
           (subst (λ (k : ℕ). k < s .threads → Front (s .threads) (update k (changeMeant (exitChange s i)) (threadsIn ts (s .threads))) ts ts₁) (place-is h) (changed (s .threads)) (thread-there h))
 
       exited-threads : threadsIn ts₁ (s .threads) ≡ B .threads
-      unfolding meant threadsIn
+      unfolding meantAt threadsIn
       exited-threads = front-changed .front ∙ ap (λ (k : ℕ). update k (finished (s .now .0)) (threadsIn ts (s .threads))) (sym (tid-on h))
 
       waiters-are : w ≡ W
@@ -201,7 +202,7 @@ module _ (s : Sched) (ts : List ThreadInfo) (qs ps ls ws : List ℕ) (v : Valid 
 
       -- the queue has room, since no thread stands in it twice
       queue-room : s .queued + length w ≤ s .capacities .threads
-      unfolding accept exited meant
+      unfolding accept exited meantAt
       queue-room =
           let b = bounded-accept M (exit i) (unrefused h) (v .bounded) in
           let f : length (take (s .queued) qs ++ W) ≤ s .capacities .threads = (let x = queue-fits _ (b .placed) in let y = b .roomy in omega arith) in
@@ -211,7 +212,7 @@ module _ (s : Sched) (ts : List ThreadInfo) (qs ps ls ws : List ℕ) (v : Valid 
           omega arith
 
     pub wake-fits : WakeFit (exitThreads s i) (exitTid s i .0) ts₁ qs (s .queued)
-    unfolding threadsIn waiters meant
+    unfolding threadsIn waiters meantAt
     wake-fits = go (exitRefusal s i) refl
       where
         go : (o : Option ℕ) → exitRefusal s i ≡ o → WakeFit (exitThreads s i) (exitTid s i .0) ts₁ qs (s .queued)
@@ -229,7 +230,7 @@ module _ (s : Sched) (ts : List ThreadInfo) (qs ps ls ws : List ℕ) (v : Valid 
 
     module _ (ts₂ : List ThreadInfo) (len : ℕ) (qs₂ : List ℕ) (woken : Woken (exitThreads s i) (exitTid s i .0) ts₁ ts₂ (s .queued) qs len qs₂) (longQ : length qs₂ ≡ length qs) where
       pub finish-fits : FinishFit s len qs₂ ls
-      unfolding meant limitNow
+      unfolding meantAt limitNow
       finish-fits =
           let c = woken .queued .count in
           let r = wake-fits .room in
@@ -245,7 +246,7 @@ module _ (s : Sched) (ts : List ThreadInfo) (qs ps ls ws : List ℕ) (v : Valid 
           }
 
       module _ (long₂ : length ts₂ ≡ length ts) (s' : Sched) (a : CallAnswer) (ls' : List ℕ) (f : Finished s i len qs₂ ls ls' s' a) where
-        refused-done : (n : ℕ) → exitRefusal s i ≡ some n → Done (exit i) (callAnswerMeant a) s s' ts ts₂ qs qs₂ ps ps ls ls' ws ws
+        refused-done : (n : ℕ) → exitRefusal s i ≡ some n → Done (exit i) (callAnswerMeant a) s s' (memory ts qs ps ls ws) (memory ts₂ qs₂ ps ls' ws)
         unfolding exitRefusal threadsIn waiters
         refused-done n h =
             let e₁ : ts₁ ≡ ts = keep-same ts ts₁ (λ k l. subst (λ (c : Change). Front k (update 0 (changeMeant c) (threadsIn ts k)) ts ts₁) (change-none n h) (subst (λ (p : ℕ). p < k → Front k (update p (changeMeant (exitChange s i)) (threadsIn ts k)) ts ts₁) (place-zero n h) (changed k) l)) in
@@ -301,14 +302,14 @@ module _ (s : Sched) (ts : List ThreadInfo) (qs ps ls ws : List ℕ) (v : Valid 
               ∙ sym (wake-threads (s .capacities .events) (s .now .0) (W h) (B h))
 
           log-is : eventsIn (logWords (s .capacities .events) ls') (s' .log) ≡ wake (s .capacities .events) (s .now .0) (W h) (B h) .log
-          unfolding meant
+          unfolding meantAt
           log-is =
               let k : take (len - s .queued) (drop (s .queued) qs₂) ≡ W h =
               pushed-words w (s .queued) qs len qs₂ (let x = v .sizes .waiting in let y = v .sizes .queue in omega arith) (woken-all .queued) ∙ waiters-are h in
               logged .events ∙ rw (k, log-capacity (s .capacities .events) ls (v .sizes .log)) (sym (woken-log (s .capacities .events) (s .now .0) (W h) (B h)))
 
-          accounts-are : meant next ts₂ qs₂ ls' ws .accounts ≡ wake (s .capacities .events) (s .now .0) (W h) (B h)
-          unfolding meant threadsIn
+          accounts-are : meantAt next ts₂ qs₂ ls' ws .accounts ≡ wake (s .capacities .events) (s .now .0) (W h) (B h)
+          unfolding meantAt threadsIn
           accounts-are =
               let e = s .capacities .events in
               let ti = wake-ticks e (s .now .0) (W h) (B h) in
@@ -316,17 +317,17 @@ module _ (s : Sched) (ts : List ThreadInfo) (qs ps ls ws : List ℕ) (v : Valid 
               let cs = woken-switches e (s .now .0) (W h) (B h) in
               λ j. record { threads = threads-is j; ticks = sym ti j; timelines = sym tl j; log = log-is j; contextSwitches = sym cs j }
 
-          state-is : meant next ts₂ qs₂ ls' ws ≡ accept M (exit i) .state
-          unfolding accept exited meant
+          state-is : meantAt next ts₂ qs₂ ls' ws ≡ accept M (exit i) .state
+          unfolding accept exited meantAt
           state-is = λ j. record { config = M .config; cores = cores-marked j; queue = queue-is j; accounts = accounts-are j; now = s .now .0; closed = s .closed }
 
           priorities-are : take (s .threads) ps ≡ map prio (threadsIn ts₂ (s .threads))
-          unfolding meant threadsIn
+          unfolding meantAt threadsIn
           priorities-are =
               v .priorities ∙ sym (ap (map prio) (woken-all .threads .front) ∙ prios-woken w (threadsIn ts₁ (s .threads)) ∙ ap (map prio) (front-changed h .front) ∙ prios-finished (s .now .0) (exitTid s i .0) (threadsIn ts (s .threads)))
 
-          taken-next : Done (exit i) (callAnswerMeant a) s next ts ts₂ qs qs₂ ps ps ls ls' ws ws
-          unfolding exitRefusal accept meant threadsIn
+          taken-next : Done (exit i) (callAnswerMeant a) s next (memory ts qs ps ls ws) (memory ts₂ qs₂ ps ls' ws)
+          unfolding exitRefusal accept meantAt threadsIn
           taken-next =
               let c = woken .queued .count in
               let ca = woken-all .queued .count in
@@ -341,12 +342,12 @@ module _ (s : Sched) (ts : List ThreadInfo) (qs ps ls ws : List ℕ) (v : Valid 
               marks (v .ticks) priorities-are
               (record { threads = woken-all .threads .rest ∙ front-changed h .rest; queue = rw big (woken-all .queued .rest); prios = refl; log = logged .rest; lanes = refl })
 
-          taken-done : Done (exit i) (callAnswerMeant a) s s' ts ts₂ qs qs₂ ps ps ls ls' ws ws
-          taken-done = subst (λ (x : Sched). Done (exit i) (callAnswerMeant a) s x ts ts₂ qs qs₂ ps ps ls ls' ws ws) (sym (f .taken h .0)) taken-next
+          taken-done : Done (exit i) (callAnswerMeant a) s s' (memory ts qs ps ls ws) (memory ts₂ qs₂ ps ls' ws)
+          taken-done = subst (λ (x : Sched). Done (exit i) (callAnswerMeant a) s x (memory ts qs ps ls ws) (memory ts₂ qs₂ ps ls' ws)) (sym (f .taken h .0)) taken-next
 
-        pub exit-done : Done (exit i) (callAnswerMeant a) s s' ts ts₂ qs qs₂ ps ps ls ls' ws ws
+        pub exit-done : Done (exit i) (callAnswerMeant a) s s' (memory ts qs ps ls ws) (memory ts₂ qs₂ ps ls' ws)
         exit-done = go (exitRefusal s i) refl
           where
-            go : (o : Option ℕ) → exitRefusal s i ≡ o → Done (exit i) (callAnswerMeant a) s s' ts ts₂ qs qs₂ ps ps ls ls' ws ws
+            go : (o : Option ℕ) → exitRefusal s i ≡ o → Done (exit i) (callAnswerMeant a) s s' (memory ts qs ps ls ws) (memory ts₂ qs₂ ps ls' ws)
             go none h = taken-done h
             go (some n) h = refused-done n h

@@ -44,6 +44,7 @@ use Rattle.state.proofs.Capacities as P
 use Rattle.state.proofs.Capacities.Laws as P′
 use Rattle.new_plan.proofs.Created as R
 use Rattle.sched_new.proofs.new as g
+use Rattle.state.specs.Memory.{memory}
 use Rattle.sched_new.proofs.new.Symbol.{name as #call}
 
 pub record Out : Type 0 where
@@ -52,7 +53,7 @@ pub record Out : Type 0 where
 
 -- what its contract says
 unfoldable pub Claim : (c : SchedConfig) (n : ℕ) (k : Capacities) (p : ℕ) (m : Lists) → Created → Lists → Type 0
-Claim c n k p m r z = NewDone c n k p (m .ts) (z .ts) (m .qs) (m .ps) (z .ps) (m .ls) (z .ls) (m .ws) (r .sched) (r .answer)
+Claim c n k p m r z = NewDone c n k p (memory (m .ts) (m .qs) (m .ps) (m .ls) (m .ws)) (memory (z .ts) (m .qs) (z .ps) (z .ls) (m .ws)) (r .sched) (r .answer)
 
 pub record Told (c : SchedConfig) (n : ℕ) (k : Capacities) (p : ℕ) (m : Lists) (w : Val) (x : Out) : Type 0 where
   pub claim : Claim c n k p m (x .answered) (x .lists)

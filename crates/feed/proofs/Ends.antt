@@ -5,6 +5,7 @@ use mathlib.Core.List.{List}
 use Rattle.settings.specs.declared.SchedConfig.{SchedConfig}
 use Rattle.state.specs.declared.Capacities.{Capacities}
 use Rattle.state.specs.declared.Sched.{Sched}
+use Rattle.state.specs.Memory.{memory}
 use Rattle.state.specs.State.{Valid}
 use Rattle.new_plan.specs.declared.Created.{Created}
 use Rattle.new_plan.specs.Made.{NewDone}
@@ -53,12 +54,12 @@ started r c n m k x z y e q a l eq ew d =
       is-done =
           rw (q, eq, ew)
           (start-done r c n (m .ts) (z .ts) (m .qs) (m .ps) (z .ps) (m .ls) (z .ls) (m .ws) x a
-          (subst (λ (j : Capacities). NewDone c n j 0 (m .ts) (z .ts) (m .qs) (m .ps) (z .ps) (m .ls) (z .ls) (m .ws) (x .sched) (x .answer)) e d));
+          (subst (λ (j : Capacities). NewDone c n j 0 (memory (m .ts) (m .qs) (m .ps) (m .ls) (m .ws)) (memory (z .ts) (m .qs) (z .ps) (z .ls) (m .ws)) (x .sched) (x .answer)) e d));
       long = l;
     }
 
 pub valid-for : (r : Report) (c : Call) (m : Lists) (s : Sched) → s ≡ r .sched → Asked r (Cases.Call c) m → ValidIn s m
-valid-for r c m s e a = subst (λ (t : Sched). Valid t (m .ts) (m .qs) (m .ps) (m .ls) (m .ws)) (sym e) (subst (λ (g : Stage). Held g (r .sched) (m .ts) (m .qs) (m .ps) (m .ls) (m .ws)) (a .fits .0) (a .held))
+valid-for r c m s e a = subst (λ (t : Sched). Valid t (memory (m .ts) (m .qs) (m .ps) (m .ls) (m .ws))) (sym e) (subst (λ (g : Stage). Held g (r .sched) (m .ts) (m .qs) (m .ps) (m .ls) (m .ws)) (a .fits .0) (a .held))
 
 pub applied : (r : Report) (c : Call) (m : Lists) (s : Sched) (x : Applied) (z : Lists) (y : Next) → s ≡ r .sched → y ≡ appliedNext r x → Asked r (Cases.Call c) m → Long m z → Applying.Claim s c m x z → Done r (Cases.Call c) m z y
 unfolding Applying.Claim

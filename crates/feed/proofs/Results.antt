@@ -11,7 +11,7 @@ use Rattle.model.specs.Accounting.{total}
 use Rattle.record_reads.specs.Totals.{totalsOf, TotalsFit}
 use Rattle.threads.specs.Slice.{threadsIn}
 use Rattle.state.specs.declared.Sched.{Sched}
-use Rattle.state.specs.State.{meant, Valid}
+use Rattle.state.specs.State.{meantAt, Valid}
 use Rattle.summary.proofs.Totaling.{totals-room}
 use Rattle.script.specs.Report as Definition
 use Rattle.sched.proofs.Memory.{Lists, Long}
@@ -51,7 +51,7 @@ module _ (r : Report) (line b : List ℕ) (m : Lists) (v : Valids r m) (room : 2
 
     read-says : Definition.feed (reportMeant r (m .ts) (m .qs) (m .ls) (m .ws)) line ≡ fedOf (reportMeant r (m .ts) (m .qs) (m .ls) (m .ws)) (x .answered)
     unfolding Reading.Claim reportMeant
-    read-says = k .says (meant (r .sched) (m .ts) (m .qs) (m .ls) (m .ws))
+    read-says = k .says (meantAt (r .sched) (m .ts) (m .qs) (m .ls) (m .ws))
 
     module _ (y : Advancing.Out) (c : Advancing.Claim r (x .answered) m (y .answered) (y .lists)) where
       pub says-it : Sayable (y .answered) b

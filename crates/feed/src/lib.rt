@@ -87,7 +87,8 @@ pub fn feed(
 // What stands at the end of a script, put at the front of `out`.
 pub fn finish(r: Report, out: &mut [u8], threads: &[ThreadInfo]) -> usize
     requires { ⌜ ((qs : List ℕ) × (ps : List ℕ) × (ls : List ℕ) × (ws : List ℕ) × ReportValid r (now threads) qs ps ls ws) × (400 ≤ length (now out)) ⌝ }
-    ensures { λ n. ⌜ ((qs ps ls ws : List ℕ) → ReportValid r (now (threads .entry)) qs ps ls ws → Put (now (out .entry)) 0 (Report·finish (reportMeant r (now (threads .entry)) qs ls ws)) (now (out .exit)) n) ⌝ }
+    ensures { λ n. ⌜ ((qs ps ls ws : List ℕ) → ReportValid r (now (threads .entry)) qs ps ls ws
+        → Put (now (out .entry)) 0 (Report·finish (reportMeant r (now (threads .entry)) qs ls ws)) (now (out .exit)) n) ⌝ }
 {
     let n = record_count(r);
     let sums = totals(threads, n);

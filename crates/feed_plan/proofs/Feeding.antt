@@ -24,7 +24,8 @@ use Rattle.model.specs.Calls.{check, refusedNew, madeOf, new, unmade, made, ste
 use Rattle.model.proofs.Invariants.{check-none}
 use Rattle.checks.specs.Check.{checkMeant}
 use Rattle.state.specs.declared.Sched.{Sched}
-use Rattle.state.specs.State.{meant, Valid, laneStart}
+use Rattle.state.specs.Memory.{memory}
+use Rattle.state.specs.State.{meantAt, Valid, laneStart}
 use Rattle.state.specs.Done.{Done}
 use Rattle.new_plan.specs.declared.Created.{Created}
 use Rattle.new_plan.specs.First.{coreCount, isShort, orRefusal, newRefusal}
@@ -92,21 +93,21 @@ module _ (r : Report) (ts : List ThreadInfo) (qs ps ls ws : List ℕ) where
       → fedOf (reportMeant r ts qs ls ws) l ≡ fedOf (reportMeant r ts qs ls ws) (LineCases.Plain (PlainCases.Refused k)) → LineDone r l ts ts qs qs ps ps ls ls ws ws (refusedNext r k)
   unfolding reportMeant nextText answerText
   refused-done k l c f h e =
-      let g : Definition.Stage = stageMeant (r .stage) (r .head) (meant (r .sched) ts qs ls ws) in
+      let g : Definition.Stage = stageMeant (r .stage) (r .head) (meantAt (r .sched) ts qs ls ws) in
       record {
-        report = refuses (r .head) (meant (r .sched) ts qs ls ws) (r .lines) (r .stage) c ∙ sym (ap (λ (x : Definition.Fed). counting (x .report)) e);
-        text = ap (λ (m : ℕ). refusedText m (refusalNumber k)) (counts (r .head) (meant (r .sched) ts qs ls ws) (r .lines) (r .stage) c) ∙ sym (ap (λ (x : Definition.Fed). x .out) e);
+        report = refuses (r .head) (meantAt (r .sched) ts qs ls ws) (r .lines) (r .stage) c ∙ sym (ap (λ (x : Definition.Fed). counting (x .report)) e);
+        text = ap (λ (m : ℕ). refusedText m (refusalNumber k)) (counts (r .head) (meantAt (r .sched) ts qs ls ws) (r .lines) (r .stage) c) ∙ sym (ap (λ (x : Definition.Fed). x .out) e);
         held = refused-held (r .sched) ts qs ps ls ws (r .stage) h;
         number = omega arith;
       }
 
   pub plain-done : (p : Plain) → LineAsked r (LineCases.Plain p) ts qs ps ls ws → LineDone r (LineCases.Plain p) ts ts qs qs ps ps ls ls ws ws (plainNext r p)
   unfolding reportMeant nextText answerText
-  plain-done PlainCases.Nothing a = record { report = rests (r .head) (meant (r .sched) ts qs ls ws) (r .lines) (r .stage) (a .fits); text = refl; held = a .held; number = omega arith }
+  plain-done PlainCases.Nothing a = record { report = rests (r .head) (meantAt (r .sched) ts qs ls ws) (r .lines) (r .stage) (a .fits); text = refl; held = a .held; number = omega arith }
   plain-done (PlainCases.Refused k) a = refused-done k (LineCases.Plain (PlainCases.Refused k)) (a .fits .0) (a .fits .1) (a .held) refl
   plain-done (PlainCases.Head h) a =
       record {
-        report = ap (λ (m : ℕ). record { lines = m; stage = heads (headMeant h) }) (in-heads (r .head) (meant (r .sched) ts qs ls ws) (r .lines) (r .stage) (a .fits .0));
+        report = ap (λ (m : ℕ). record { lines = m; stage = heads (headMeant h) }) (in-heads (r .head) (meantAt (r .sched) ts qs ls ws) (r .lines) (r .stage) (a .fits .0));
         text = refl;
         held = tt;
         number = omega arith;
@@ -138,12 +139,12 @@ module _ (c : SchedConfig) (n : ℕ) (ts : List ThreadInfo) (qs ps ls ws : List 
       go none q g = rw (long-enough q) at g
 
 module _ (r : Report) (c : SchedConfig) (n : ℕ) (ts ts' : List ThreadInfo) (qs ps ps' ls ls' ws : List ℕ) where
-  start-taken : (s : Sched) → r .stage ≡ StageCases.Heads → r .lines ≤ 1_000_000_000_000 → NewTaken c n reportCapacities 0 ts ts' qs ps ps' ls ls' ws s
+  start-taken : (s : Sched) → r .stage ≡ StageCases.Heads → r .lines ≤ 1_000_000_000_000 → NewTaken c n reportCapacities 0 (memory ts qs ps ls ws) (memory ts' qs ps' ls' ws) s
       → LineDone r (LineCases.Start c n) ts ts' qs qs ps ps' ls ls' ws ws (answeredNext r s CallCases.Taken)
   unfolding reportMeant nextText answerText begun created
   start-taken s e f t =
       record {
-        report = ap (λ (m : ℕ). record { lines = m; stage = calls (meant s ts' qs ls' ws) }) (in-heads (r .head) (meant (r .sched) ts qs ls ws) (r .lines) (r .stage) e) ∙ sym (ap (λ (x : Calls.Made). counting (begun (suc (reportMeant r ts qs ls ws .lines)) x .report)) (t .state));
+        report = ap (λ (m : ℕ). record { lines = m; stage = calls (meantAt s ts' qs ls' ws) }) (in-heads (r .head) (meantAt (r .sched) ts qs ls ws) (r .lines) (r .stage) e) ∙ sym (ap (λ (x : Calls.Made). counting (begun (suc (reportMeant r ts qs ls ws .lines)) x .report)) (t .state));
         text = sym (ap (λ (x : Calls.Made). begun (suc (reportMeant r ts qs ls ws .lines)) x .out) (t .state));
         held = t .valid;
         number = omega arith;
@@ -156,7 +157,7 @@ module _ (r : Report) (c : SchedConfig) (n : ℕ) (ts ts' : List ThreadInfo) (qs
       refused-done r ts qs ps ls ws k (LineCases.Start c n) (subst Counts (sym (a .fits .0)) tt) (a .fits .1) (a .held)
       (rw (made-refused c n ts qs ps ls ws (a .memory) (refusalNumber k) e, a .fits .0))
 
-  pub start-done : (x : Created) → LineAsked r (LineCases.Start c n) ts qs ps ls ws → NewDone c n reportCapacities 0 ts ts' qs ps ps' ls ls' ws (x .sched) (x .answer)
+  pub start-done : (x : Created) → LineAsked r (LineCases.Start c n) ts qs ps ls ws → NewDone c n reportCapacities 0 (memory ts qs ps ls ws) (memory ts' qs ps' ls' ws) (x .sched) (x .answer)
       → LineDone r (LineCases.Start c n) ts ts' qs qs ps ps' ls ls' ws ws (createdNext r x)
   start-done x a d = go (x .answer) refl
     where
@@ -164,7 +165,7 @@ module _ (r : Report) (c : SchedConfig) (n : ℕ) (ts ts' : List ThreadInfo) (qs
       go CallCases.Taken e = start-taken (x .sched) (a .fits .0) (a .fits .1) (d .taken (ap checkMeant e))
       go (CallCases.Refused k) e =
           let g = d .refused (refusalNumber k) (ap checkMeant e) in
-          rw (g .0, g .1, g .2) (start-refused k a (sym (d .answer) ∙ ap checkMeant e))
+          rw (g .0, g .2, g .3) (start-refused k a (sym (d .answer) ∙ ap checkMeant e))
 
 ---- a call is applied
 
@@ -178,16 +179,16 @@ stepped-text : (n m : ℕ) (s t : State) (a b : Calls.Answer) → n ≡ m → s 
 stepped-text n m s t a b p q w = λ i. answerText (p i) (q i .now) (w i)
 
 pub call-done : (r : Report) (c : Call) (x : Applied) (ts ts' : List ThreadInfo) (qs qs' ps ps' ls ls' ws ws' : List ℕ) → LineAsked r (LineCases.Call c) ts qs ps ls ws
-    → Done (callMeant c) (outcomeMeant (x .outcome) (x .switches)) (r .sched) (x .sched) ts ts' qs qs' ps ps' ls ls' ws ws' → LineDone r (LineCases.Call c) ts ts' qs qs' ps ps' ls ls' ws ws' (appliedNext r x)
-unfolding reportMeant nextText said meant
+    → Done (callMeant c) (outcomeMeant (x .outcome) (x .switches)) (r .sched) (x .sched) (memory ts qs ps ls ws) (memory ts' qs' ps' ls' ws') → LineDone r (LineCases.Call c) ts ts' qs qs' ps ps' ls ls' ws ws' (appliedNext r x)
+unfolding reportMeant nextText said meantAt
 call-done r c x ts ts' qs qs' ps ps' ls ls' ws ws' a d =
-    let s : State = meant (r .sched) ts qs ls ws in
+    let s : State = meantAt (r .sched) ts qs ls ws in
     let n : ℕ = suc (linesIn (stageMeant (r .stage) (r .head) s) (r .lines)) in
     let e : r .lines + 1 ≡ n = in-calls (r .head) s (r .lines) (r .stage) (a .fits .0) in
     let k : stepIn n (stageMeant (r .stage) (r .head) s) (callMeant c) ≡ said n (step s (callMeant c)) = step-in (r .stage) (r .head) s n (callMeant c) (a .fits .0) in
     record {
-      report = stepped-report (r .lines + 1) n (meant (x .sched) ts' qs' ls' ws') (step s (callMeant c) .state) e (d .state) ∙ sym (ap (λ (f : Definition.Fed). counting (f .report)) k);
-      text = stepped-text (r .lines + 1) n (meant (x .sched) ts' qs' ls' ws') (step s (callMeant c) .state) _ _ e (d .state) (d .answer) ∙ sym (ap (λ (f : Definition.Fed). f .out) k);
+      report = stepped-report (r .lines + 1) n (meantAt (x .sched) ts' qs' ls' ws') (step s (callMeant c) .state) e (d .state) ∙ sym (ap (λ (f : Definition.Fed). counting (f .report)) k);
+      text = stepped-text (r .lines + 1) n (meantAt (x .sched) ts' qs' ls' ws') (step s (callMeant c) .state) _ _ e (d .state) (d .answer) ∙ sym (ap (λ (f : Definition.Fed). f .out) k);
       held = d .valid;
       number = omega arith;
     }
@@ -231,7 +232,7 @@ line-room over o = omega arith
 module _ (r : Report) (line : List ℕ) (ts : List ThreadInfo) (qs ps ls ws : List ℕ) (v : ReportValid r ts qs ps ls ws) where
   pub lines-few : Few (r .stage) (r .lines)
   unfolding reportMeant
-  lines-few = few-in (r .stage) (r .head) (meant (r .sched) ts qs ls ws) (r .lines) (v .kept)
+  lines-few = few-in (r .stage) (r .head) (meantAt (r .sched) ts qs ls ws) (r .lines) (v .kept)
 
   pub line-asked : (l : Line) → Fits r l → LineAsked r l ts qs ps ls ws
   line-asked l f = record { fits = f; memory = v .memory; held = v .held }

@@ -16,7 +16,7 @@ use Rattle.record_reads.specs.declared.totals.Totals.{Totals}
 use Rattle.record_reads.specs.Totals.{totalsOf}
 use Rattle.threads.specs.Slice.{threadsIn}
 use Rattle.state.specs.declared.Sched.{Sched}
-use Rattle.state.specs.State.{meant, Valid}
+use Rattle.state.specs.State.{meantAt, Valid}
 use Rattle.switches.specs.declared.SwitchList.{SwitchList}
 use Rattle.summary.specs.Reading.{Summed}
 use Rattle.new_plan.specs.declared.Created.{Created}
@@ -115,11 +115,11 @@ module _ (r : Report) where
     unfolding finish finishing reportMeant
     end-heads e = rw e (ap (λ (m : ℕ). refusedText m 6) (one-more (r .lines)))
 
-    pub end-calls : r .stage ≡ StageCases.Calls → summary (meant (r .sched) ts qs ls ws) ≡ finish (reportMeant r ts qs ls ws)
+    pub end-calls : r .stage ≡ StageCases.Calls → summary (meantAt (r .sched) ts qs ls ws) ≡ finish (reportMeant r ts qs ls ws)
     unfolding finish finishing reportMeant
     end-calls e = rw e
 
-    pub end-ended : r .stage ≡ StageCases.Ended → summary (meant (r .sched) ts qs ls ws) ≡ finish (reportMeant r ts qs ls ws)
+    pub end-ended : r .stage ≡ StageCases.Ended → summary (meantAt (r .sched) ts qs ls ws) ≡ finish (reportMeant r ts qs ls ws)
     unfolding finish finishing reportMeant
     end-ended e = rw e
 

@@ -9,7 +9,7 @@ use Rattle.rcfg.specs.declared.Head as Heads
 use Rattle.rcfg.specs.Reading.{headMeant}
 use Rattle.model.specs.declared.ThreadInfo.{ThreadInfo}
 use Rattle.state.specs.declared.Sched.{Sched}
-use Rattle.state.specs.State.{meant}
+use Rattle.state.specs.State.{meantAt}
 use Rattle.script.specs.Report.{heads, calls, ended, over, Stage, Report, Fed, feed, feeds, finish, whole}
 use Rattle.script.specs.Report as Definition
 use Rattle.script.proofs.Streams.{whole-step, whole-end, whole-over, whole-ended}

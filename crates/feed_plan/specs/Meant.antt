@@ -7,7 +7,8 @@ use Rattle.rcfg.specs.Reading.{headMeant}
 use Rattle.model.specs.declared.ThreadInfo.{ThreadInfo}
 use Rattle.model.specs.Types.{State}
 use Rattle.state.specs.declared.Sched.{Sched}
-use Rattle.state.specs.State.{meant, Valid}
+use Rattle.state.specs.Memory.{memory}
+use Rattle.state.specs.State.{meantAt, Valid}
 use Rattle.script.specs.Report as Definition
 use Rattle.script.proofs.Room.{Kept}
 use Rattle.feed_plan.specs.declared.Stage.{Stage}
@@ -35,7 +36,7 @@ abbrev pub reportAt : Report → State → Definition.Report
 reportAt r s = counting (record { lines = r .lines; stage = stageMeant (r .stage) (r .head) s })
 
 unfoldable pub reportMeant : Report → List ThreadInfo → (queue log lanes : List ℕ) → Definition.Report
-reportMeant r ts qs ls ws = reportAt r (meant (r .sched) ts qs ls ws)
+reportMeant r ts qs ls ws = reportAt r (meantAt (r .sched) ts qs ls ws)
 
 -- where lines are still counted there are not too many
 abbrev pub Few : Stage → ℕ → Type 0
@@ -47,8 +48,8 @@ Few StageCases.Over n = Unit {0}
 -- a state that calls may count on, from `cores=` on
 abbrev pub Held : Stage → Sched → List ThreadInfo → (queue prios log lanes : List ℕ) → Type 0
 Held StageCases.Heads s ts qs ps ls ws = Unit {0}
-Held StageCases.Calls s ts qs ps ls ws = Valid s ts qs ps ls ws
-Held StageCases.Ended s ts qs ps ls ws = Valid s ts qs ps ls ws
+Held StageCases.Calls s ts qs ps ls ws = Valid s (memory ts qs ps ls ws)
+Held StageCases.Ended s ts qs ps ls ws = Valid s (memory ts qs ps ls ws)
 Held StageCases.Over s ts qs ps ls ws = Unit {0}
 
 -- 01: "T 256, E 512, S 256": the memory is long enough for a scheduler of eight cores

@@ -31,7 +31,8 @@ use Rattle.record_moves.proofs.Moving.{moved-threads}
 use Rattle.threads.specs.Slice.{blank, threadsIn, Front, tidAt, MovesFit}
 use Rattle.threads.proofs.Slices.{thread-at, length-threads}
 use Rattle.state.specs.declared.Sched.{Sched}
-use Rattle.state.specs.State.{firsts, coreFrom, statesOf, noPos, laneWords, meant, Sizes, Rings, Marks, Valid}
+use Rattle.state.specs.Memory.{memory}
+use Rattle.state.specs.State.{firsts, coreFrom, statesOf, noPos, laneWords, meantAt, Sizes, Rings, Marks, Valid}
 use Rattle.state.specs.Done.{Frame, Done}
 use Rattle.state.proofs.Doing.{done-taken}
 use Rattle.state.proofs.Firsts.{length-firsts, coreAt-firsts}
@@ -56,17 +57,17 @@ core-at N [] i a = tt
 core-at N (c ∷ cs) zero a = a .0
 core-at N (c ∷ cs) (suc i) a = core-at N cs i (a .1)
 
-module _ (s : Sched) (ts : List ThreadInfo) (qs ps ls ws : List ℕ) (v : Valid s ts qs ps ls ws) (i : ℕ) (nm : Option ℕ) (at : ℕ) where
+module _ (s : Sched) (ts : List ThreadInfo) (qs ps ls ws : List ℕ) (v : Valid s (memory ts qs ps ls ws)) (i : ℕ) (nm : Option ℕ) (at : ℕ) where
   abbrev M : State
-  M = meant s ts qs ls ws
+  M = meantAt s ts qs ls ws
 
   module _ (pick : Picked (asked (M .config .policy) (rules M .prio) nm (M .queue)) (M .queue) at) where
     queue-long : length (M .queue) ≡ s .queued
-    unfolding meant
+    unfolding meantAt
     queue-long = length-take-le (s .queued) qs (omega (arith, v .sizes .waiting, v .sizes .queue))
 
     state-at : leb (s .cores) i ≡ false → coreStateOf M i ≡ stateAt s i
-    unfolding coreStateOf meant coreFrom
+    unfolding coreStateOf meantAt coreFrom
     state-at e = ap (λ (c : Core). c .state) (coreAt-firsts (coresOf s) (s .cores) i (leb-false (s .cores) i e))
 
     takes-place : (r : Option ℕ) → cannotTake M i nm r ≡ check (absent nm) (leb (s .queued) at) r
@@ -79,7 +80,7 @@ module _ (s : Sched) (ts : List ThreadInfo) (qs ps ls ws : List ℕ) (v : Valid 
 
     -- the ladder is the definition's refusal
     pub force-refusal : refusal M (force i nm) ≡ forceRefusal s i nm at
-    unfolding refusal forceRefusal noCore meant check
+    unfolding refusal forceRefusal noCore meantAt check
     force-refusal =
         ap (λ (n : ℕ). check 4 (leb n i) (check 11 (s .closed) (check 12 (anyLeaving (M .cores)) (check 14 (isSwitching (coreStateOf M i)) (cannotTake M i nm (check 19 (leb limitSwitches (s .«context_switches»)) none)))))) (length-firsts (coresOf s) (s .cores))
         ∙ go (leb (s .cores) i) refl
@@ -113,7 +114,7 @@ module _ (s : Sched) (ts : List ThreadInfo) (qs ps ls ws : List ℕ) (v : Valid 
 
       -- what the parts ask
       pub plan-fits : ForceFits s i at qs ws
-      unfolding meant
+      unfolding meantAt
       plan-fits =
           record {
             cores = v .sizes .cores;
@@ -126,19 +127,19 @@ module _ (s : Sched) (ts : List ThreadInfo) (qs ps ls ws : List ℕ) (v : Valid 
           }
 
       pub write-fits : (ws' : List ℕ) (count now : ℕ) → length ws' ≡ length ws → count ≤ 3 → now ≡ s .now .0 → WriteFits s ls ws' count now
-      unfolding meant limitNow
+      unfolding meantAt limitNow
       write-fits ws' count now e l t =
           record { words = v .sizes .log; ring = v .rings .events; within = omega (arith, v .sizes .lanes); early = omega (arith, v .bounded .now) }
 
       pub switches-fit : (ws' : List ℕ) (count now : ℕ) (ls' : List ℕ) (w : Written) → count ≤ 3 → WriteFits s ls ws' count now → WrittenOf s now (movesIn ws' count) ls ls' w → s .«context_switches» + w .takes < 2 ^ 64
-      unfolding meant
+      unfolding meantAt
       switches-fit ws' count now ls' w l f g = omega (arith, few-takes ws' count (f .within), g .takes, switches-figure M (v .bounded))
 
       abbrev taken : ℕ
       taken = getD (take (s .queued) qs) at 0
 
       is-taken : takenBy M i nm ≡ taken
-      unfolding meant
+      unfolding meantAt
       is-taken = taken-at M i at nm pick waits
 
       module _ (p : Planned) (w : Written) (qs' ls' ws' : List ℕ) (P : ForcedOf s i at qs qs' ws ws' p) (R : WrittenOf s (s .now .0) (movesIn ws' (p .moves)) ls ls' w) where
@@ -163,7 +164,7 @@ module _ (s : Sched) (ts : List ThreadInfo) (qs ps ls ws : List ℕ) (v : Valid 
         count-long = omega (arith, P .few, P .longLanes, v .sizes .lanes)
 
         known : (k : ℕ) → k < p .moves → tidAt ws' k < s .threads
-        unfolding meant threadsIn coreStateOf
+        unfolding meantAt threadsIn coreStateOf
         known =
             let N = length (M .accounts .threads) in
             let a : MovesIn N (outOf i (coreStateOf M i)) = in-outOf N i (coreStateOf M i) (core-at N (M .cores) i (placed-cores M (v .bounded .placed) still-open)) in
@@ -173,7 +174,7 @@ module _ (s : Sched) (ts : List ThreadInfo) (qs ps ls ws : List ℕ) (v : Valid 
             moves-at (s .threads) ws' (p .moves) (subst (λ (n : ℕ). MovesIn n made) (length-threads ts (s .threads) records-long) c) count-long
 
         pub force-fits : MovesFit ts ws' (p .moves)
-        unfolding meant threadsIn
+        unfolding meantAt threadsIn
         force-fits =
             record {
               within = count-long;
@@ -195,11 +196,11 @@ module _ (s : Sched) (ts : List ThreadInfo) (qs ps ls ws : List ℕ) (v : Valid 
           moved-long = front-long (s .threads) _ ts ts' moved-front (priority-moved (s .now .0) made (threadsIn ts (s .threads))) records-long
 
           priorities-kept : take (s .threads) ps ≡ prioritiesOf (threadsIn ts' (s .threads))
-          unfolding meant threadsIn
+          unfolding meantAt threadsIn
           priorities-kept = v .priorities ∙ sym (ap prioritiesOf (moved-front .front) ∙ priority-moved (s .now .0) made (threadsIn ts (s .threads)))
 
-          accounts-same : meant s' ts' qs' ls' ws' .accounts ≡ applyMoves (s .capacities .events) (s .now .0) made (M .accounts)
-          unfolding meant threadsIn
+          accounts-same : meantAt s' ts' qs' ls' ws' .accounts ≡ applyMoves (s .capacities .events) (s .now .0) made (M .accounts)
+          unfolding meantAt threadsIn
           accounts-same =
               λ k. record {
                 threads = (moved-front .front ∙ sym (moved-threads (s .capacities .events) (s .now .0) made (M .accounts))) k;
@@ -210,13 +211,13 @@ module _ (s : Sched) (ts : List ThreadInfo) (qs ps ls ws : List ℕ) (v : Valid 
               }
 
           queue-same : take (p .queued) qs' ≡ without (takenBy M i nm) (M .queue ++ backOf (coreStateOf M i))
-          unfolding meant
+          unfolding meantAt
           queue-same =
               P .left ∙ ap (λ (c : CoreState). without taken (M .queue ++ backOf c)) (sym (state-at there-is))
               ∙ ap (λ (t : ℕ). without t (M .queue ++ backOf (coreStateOf M i))) (sym is-taken)
 
-          state-same : meant s' ts' qs' ls' ws' ≡ accept M (force i nm) .state
-          unfolding accept meant
+          state-same : meantAt s' ts' qs' ls' ws' ≡ accept M (force i nm) .state
+          unfolding accept meantAt
           state-same =
               λ k. record {
                 config = M .config;
@@ -227,8 +228,8 @@ module _ (s : Sched) (ts : List ThreadInfo) (qs ps ls ws : List ℕ) (v : Valid 
                 closed = s .closed;
               }
 
-          pub force-done : (a : CallAnswer) → a ≡ CallCases.Taken → Done (force i nm) (switchAnswerMeant a (w .switches .entries) (w .switches .count)) s s' ts ts' qs qs' ps ps ls ls' ws ws'
-          unfolding accept meant threadsIn
+          pub force-done : (a : CallAnswer) → a ≡ CallCases.Taken → Done (force i nm) (switchAnswerMeant a (w .switches .entries) (w .switches .count)) s s' (memory ts qs ps ls ws) (memory ts' qs' ps ls' ws')
+          unfolding accept meantAt threadsIn
           force-done a e =
               let is : switchAnswerMeant a (w .switches .entries) (w .switches .count) ≡ switched (switchesMeant (w .switches .entries) (w .switches .count)) = ap (λ (b : CallAnswer). switchAnswerMeant b (w .switches .entries) (w .switches .count)) e in
               let m : max (s .queued) (p .queued) ≡ s .queued = omega (arith, P .queue .fits) in

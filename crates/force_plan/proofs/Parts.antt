@@ -23,7 +23,8 @@ use Rattle.queue.specs.Words.{movesIn, NoLonger, Appended}
 use Rattle.queue.specs.Ready.{Picked}
 use Rattle.decide.specs.Forced.{asked}
 use Rattle.state.specs.declared.Sched.{Sched}
-use Rattle.state.specs.State.{firsts, coreFrom, statesOf, meant, Valid}
+use Rattle.state.specs.Memory.{memory}
+use Rattle.state.specs.State.{firsts, coreFrom, statesOf, meantAt, Valid}
 use Rattle.state.specs.Done.{Done}
 use Rattle.state.proofs.Doing.{done-refused}
 use Rattle.checks.specs.Check.{checkMeant}
@@ -75,30 +76,30 @@ module _ (s : Sched) (i at : ℕ) (qs qs' ws b : List ℕ) (cs cs' : List Progra
 -- the place, by the priorities that the records hold
 module _ (s : Sched) (ts : List ThreadInfo) (qs ps ls ws : List ℕ) (nm : Option ℕ) (at : ℕ) where
   abbrev M : State
-  M = meant s ts qs ls ws
+  M = meantAt s ts qs ls ws
 
-  pub place-meant : Valid s ts qs ps ls ws → AskedAt s nm qs ps at → Picked (asked (M .config .policy) (rules M .prio) nm (M .queue)) (M .queue) at
-  unfolding meant
+  pub place-meant : Valid s (memory ts qs ps ls ws) → AskedAt s nm qs ps at → Picked (asked (M .config .policy) (rules M .prio) nm (M .queue)) (M .queue) at
+  unfolding meantAt
   place-meant v p =
       subst (λ (k : Rules). Picked (asked (policyMeant (s .config .policy)) (k .prio) nm (take (s .queued) qs)) (take (s .queued) qs) at) (sym (rules-same s ts qs ps ls ws v)) p
 
   ---- refused: nothing is decided, and there are no moves
 
-  pub pending-refused : (i : ℕ) → Valid s ts qs ps ls ws → AskedAt s nm qs ps at → (a : CallAnswer) (x : Refusal) (entries : List SwitchWords) (count : ℕ) → a ≡ CallCases.Refused x → checkMeant a ≡ forceRefusal s i nm at
+  pub pending-refused : (i : ℕ) → Valid s (memory ts qs ps ls ws) → AskedAt s nm qs ps at → (a : CallAnswer) (x : Refusal) (entries : List SwitchWords) (count : ℕ) → a ≡ CallCases.Refused x → checkMeant a ≡ forceRefusal s i nm at
       → ForcePending i nm (switchAnswerMeant a entries count) s s 0 ts qs qs ps ls ls ws ws
   pending-refused i v p a x entries count e h =
       record {
         fits = record { within = omega arith; known = λ k l. absurd (omega arith); room = λ k l. absurd (omega arith) };
         done = λ ts' g.
             let same : ts' ≡ ts = g 0 (λ k l. absurd (omega arith)) .rest in
-            subst (λ (l : List ThreadInfo). Done (force i nm) (switchAnswerMeant a entries count) s s ts l qs qs ps ps ls ls ws ws) (sym same)
-            (subst (λ (b : Answer). Done (force i nm) b s s ts ts qs qs ps ps ls ls ws ws) (sym (ap (λ (b : CallAnswer). switchAnswerMeant b entries count) e))
+            subst (λ (l : List ThreadInfo). Done (force i nm) (switchAnswerMeant a entries count) s s (memory ts qs ps ls ws) (memory l qs ps ls ws)) (sym same)
+            (subst (λ (b : Answer). Done (force i nm) b s s (memory ts qs ps ls ws) (memory ts qs ps ls ws)) (sym (ap (λ (b : CallAnswer). switchAnswerMeant b entries count) e))
             (done-refused (force i nm) s ts qs ps ls ws v (refusalNumber x) (F.force-refusal s ts qs ps ls ws v i nm at (place-meant v p) ∙ sym h ∙ ap checkMeant e)));
       }
 
   ---- taken
 
-  pub forceable : (i : ℕ) → Valid s ts qs ps ls ws → AskedAt s nm qs ps at → (a : CallAnswer) → a ≡ CallCases.Taken → checkMeant a ≡ forceRefusal s i nm at → Forceable s i nm at ts qs ps ls ws
+  pub forceable : (i : ℕ) → Valid s (memory ts qs ps ls ws) → AskedAt s nm qs ps at → (a : CallAnswer) → a ≡ CallCases.Taken → checkMeant a ≡ forceRefusal s i nm at → Forceable s i nm at ts qs ps ls ws
   forceable i v p a e h = record { valid = v; place = p; unrefused = taken-none a (forceRefusal s i nm at) e h }
 
   module _ (i : ℕ) (f : Forceable s i nm at ts qs ps ls ws) where

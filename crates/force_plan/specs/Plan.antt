@@ -17,6 +17,7 @@ use Rattle.queue.specs.Words.{movesIn, NoLonger}
 use Rattle.queue.specs.Ready.{Picked, prioOf}
 use Rattle.threads.specs.Slice.{MovesFit}
 use Rattle.state.specs.declared.Sched.{Sched}
+use Rattle.state.specs.Memory.{memory}
 use Rattle.state.specs.State.{firsts, coreFrom, statesOf, moveRoom, Valid}
 use Rattle.state.specs.Done.{Done}
 use Rattle.tick_plan.specs.declared.Planned.{Planned}
@@ -28,7 +29,7 @@ use Rattle.decide.proofs.Asked.{absent}
 -- a forced switch that is done once the moves are applied to the records
 pub record ForcePending (core : ℕ) (named : Option ℕ) (a : Answer) (s s' : Sched) (count : ℕ) (ts : List ThreadInfo) (qs qs' ps ls ls' ws ws' : List ℕ) : Type 0 where
   pub fits : MovesFit ts ws' count
-  pub done : (ts' : List ThreadInfo) → MovedRecords (s .now .0) ws' count ts ts' → Done (force core named) a s s' ts ts' qs qs' ps ps ls ls' ws ws'
+  pub done : (ts' : List ThreadInfo) → MovedRecords (s .now .0) ws' count ts ts' → Done (force core named) a s s' (memory ts qs ps ls ws) (memory ts' qs' ps ls' ws')
 
 abbrev pub coresOf : Sched → ℕ → Core
 coresOf s = coreFrom (statesOf (s .states)) (s .exits) (s .blocks) (s .yields) (s .progressed)
@@ -48,7 +49,7 @@ AskedAt s n qs ps at = Picked (asked (policyMeant (s .config .policy)) (prioOf (
 
 -- a forced switch that is not refused
 pub record Forceable (s : Sched) (core : ℕ) (named : Option ℕ) (at : ℕ) (ts : List ThreadInfo) (qs ps ls ws : List ℕ) : Type 0 where
-  pub valid : Valid s ts qs ps ls ws
+  pub valid : Valid s (memory ts qs ps ls ws)
   pub place : AskedAt s named qs ps at
   pub unrefused : forceRefusal s core named at ≡ none
 

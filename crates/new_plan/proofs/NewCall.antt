@@ -35,7 +35,8 @@ use Rattle.rings.specs.Timeline.{segmentsIn}
 use Rattle.rings.proofs.EntryLaws.{ring-empty, entries-none}
 use Rattle.state.specs.declared.Capacities.{Capacities}
 use Rattle.state.specs.declared.Sched.{Sched}
-use Rattle.state.specs.State.{firsts, coreFrom, statesOf, meant, noTicks, noPos, laneStart, laneWords, logWords, Sizes, Rings, Marks, Valid}
+use Rattle.state.specs.Memory.{memory, Unchanged}
+use Rattle.state.specs.State.{firsts, coreFrom, statesOf, meantAt, noTicks, noPos, laneStart, laneWords, logWords, Sizes, Rings, Marks, Valid}
 use Rattle.checks.specs.Check.{checkMeant}
 use Rattle.walkkit.specs.Firsts as Walk
 use Rattle.walkkit.proofs.Firsts.{length-firsts, drop-firsts}
@@ -220,8 +221,8 @@ module _ (c : SchedConfig) (n : ℕ) (k : Capacities) (entry : ℕ) (ts : List T
     threads-are : map threadMeant (take 1 ts') ≡ firstThread entry ∷ []
     threads-are = ap (map threadMeant) (written t ts some-record) ∙ ap (λ (x : ThreadRecord). x ∷ []) first
 
-    state-is : meant s ts' qs ls' ws ≡ initialState (pred n) entry config
-    unfolding meant initialState firstSched firstEvents
+    state-is : meantAt s ts' qs ls' ws ≡ initialState (pred n) entry config
+    unfolding meantAt initialState firstSched firstEvents
     state-is =
         λ j. record {
           config = config;
@@ -245,11 +246,11 @@ module _ (c : SchedConfig) (n : ℕ) (k : Capacities) (entry : ℕ) (ts : List T
     unused-idle zero l = absurd (count-some n l)
     unused-idle (suc i) l = own-idle i
 
-    priorities-are : take 1 ps' ≡ map (λ (x : ThreadRecord). x .priority) (meant s ts' qs ls' ws .accounts .threads)
-    unfolding meant firstSched started addCounts born
+    priorities-are : take 1 ps' ≡ map (λ (x : ThreadRecord). x .priority) (meantAt s ts' qs ls' ws .accounts .threads)
+    unfolding meantAt firstSched started addCounts born
     priorities-are = first-set 10 ps (let a = prios-fit h in let b = some-thread h in omega arith) ∙ sym (ap (map (λ (x : ThreadRecord). x .priority)) threads-are)
 
-    valid-is : Valid s ts' qs ps' ls' ws
+    valid-is : Valid s (memory ts' qs ps' ls' ws)
     unfolding firstSched coreFrom
     valid-is =
         let long : length ts' ≡ length ts = length-firsts (sameAt t) 1 ts in
@@ -268,22 +269,22 @@ module _ (c : SchedConfig) (n : ℕ) (k : Capacities) (entry : ℕ) (ts : List T
           bounded = subst Bounded (sym state-is) (bounded h);
         }
 
-    pub new-taken : NewTaken c n k entry ts ts' qs ps ps' ls ls' ws s
-    new-taken = record { state = is-new h ∙ ap made (sym state-is); valid = valid-is; threads = drop-firsts (sameAt t) 1 ts; prios = rest-set 10 ps; log = logged .rest }
+    pub new-taken : NewTaken c n k entry (memory ts qs ps ls ws) (memory ts' qs ps' ls' ws) s
+    new-taken = record { state = is-new h ∙ ap made (sym state-is); valid = valid-is; threads = drop-firsts (sameAt t) 1 ts; queue = refl; prios = rest-set 10 ps; log = logged .rest; lanes = refl }
 
   module _ (g : CallAnswer) (e : checkMeant g ≡ why) (t : ThreadInfo) (first : threadMeant t ≡ firstThread entry) (ts' : List ThreadInfo) (w : ts' ≡ Walk.firsts (sameAt t) (takenCount (checkMeant g)) ts)
       (ps' ls' : List ℕ) (s : Sched) (a : CallAnswer) (f : CreatedAs c n k g ps ps' ls ls' s a) where
-    refused-same : (m : ℕ) → checkMeant g ≡ some m → (ts' ≡ ts) × (ps' ≡ ps) × (ls' ≡ ls)
+    refused-same : (m : ℕ) → checkMeant g ≡ some m → Unchanged (memory ts qs ps ls ws) (memory ts' qs ps' ls' ws)
     unfolding Walk.firsts
-    refused-same m z = (w ∙ ap (λ (o : Option ℕ). Walk.firsts (sameAt t) (takenCount o) ts) z, f .refused m z .0, f .refused m z .1)
+    refused-same m z = (w ∙ ap (λ (o : Option ℕ). Walk.firsts (sameAt t) (takenCount o) ts) z, refl, f .refused m z .0, f .refused m z .1, refl)
 
-    taken-all : checkMeant g ≡ none → NewTaken c n k entry ts ts' qs ps ps' ls ls' ws s
+    taken-all : checkMeant g ≡ none → NewTaken c n k entry (memory ts qs ps ls ws) (memory ts' qs ps' ls' ws) s
     taken-all z =
         let d = f .taken z in
         rw (w ∙ ap (λ (o : Option ℕ). Walk.firsts (sameAt t) (takenCount o) ts) z, d .1)
-        (subst (λ (x : Sched). NewTaken c n k entry ts (Walk.firsts (sameAt t) 1 ts) qs ps (set ps 0 10) ls ls' ws x) (sym (d .0)) (new-taken (sym e ∙ z) t first (s .log) ls' (d .2)))
+        (subst (λ (x : Sched). NewTaken c n k entry (memory ts qs ps ls ws) (memory (Walk.firsts (sameAt t) 1 ts) qs (set ps 0 10) ls' ws) x) (sym (d .0)) (new-taken (sym e ∙ z) t first (s .log) ls' (d .2)))
 
-    pub new-done : NewDone c n k entry ts ts' qs ps ps' ls ls' ws s a
+    pub new-done : NewDone c n k entry (memory ts qs ps ls ws) (memory ts' qs ps' ls' ws) s a
     new-done =
         record {
           answer = ap checkMeant (f .answer) ∙ e;

@@ -11,6 +11,7 @@ use Rattle.model.specs.declared.CallAnswer.{CallAnswer}
 use Rattle.model.specs.Calls.{new, made}
 use Rattle.state.specs.declared.Capacities.{Capacities}
 use Rattle.state.specs.declared.Sched.{Sched}
+use Rattle.state.specs.Memory.{Memory, Unchanged}
 use Rattle.state.specs.State.{meant, Valid}
 use Rattle.checks.specs.Check.{checkMeant}
 use Rattle.new_plan.specs.First.{newRefusal}
@@ -19,14 +20,16 @@ use Rattle.new_plan.specs.First.{newRefusal}
 unfoldable pub sameAt : ThreadInfo → (i : ℕ) → ThreadInfo → ThreadInfo
 sameAt t i x = t
 
-pub record NewTaken (c : SchedConfig) (n : ℕ) (k : Capacities) (entry : ℕ) (ts ts' : List ThreadInfo) (qs ps ps' ls ls' ws : List ℕ) (s : Sched) : Type 0 where
-  pub state : new (policyMeant (c .policy)) (c .quantum) (c .«switch_cost») n (k .threads) (k .events) (k .segments) entry ≡ made (meant s ts' qs ls' ws)
-  pub valid : Valid s ts' qs ps' ls' ws
-  pub threads : drop 1 ts' ≡ drop 1 ts
-  pub prios : drop 1 ps' ≡ drop 1 ps
-  pub log : drop (2 * k .events) ls' ≡ drop (2 * k .events) ls
+pub record NewTaken (c : SchedConfig) (n : ℕ) (k : Capacities) (entry : ℕ) (m m' : Memory) (s : Sched) : Type 0 where
+  pub state : new (policyMeant (c .policy)) (c .quantum) (c .«switch_cost») n (k .threads) (k .events) (k .segments) entry ≡ made (meant s m')
+  pub valid : Valid s m'
+  pub threads : drop 1 (m' .threads) ≡ drop 1 (m .threads)
+  pub queue : m' .queue ≡ m .queue
+  pub prios : drop 1 (m' .prios) ≡ drop 1 (m .prios)
+  pub log : drop (2 * k .events) (m' .log) ≡ drop (2 * k .events) (m .log)
+  pub lanes : m' .lanes ≡ m .lanes
 
-pub record NewDone (c : SchedConfig) (n : ℕ) (k : Capacities) (entry : ℕ) (ts ts' : List ThreadInfo) (qs ps ps' ls ls' ws : List ℕ) (s : Sched) (a : CallAnswer) : Type 0 where
-  pub answer : checkMeant a ≡ newRefusal c n k (length ts) (length qs) (length ps) (length ls) (length ws)
-  pub refused : (m : ℕ) → checkMeant a ≡ some m → (ts' ≡ ts) × (ps' ≡ ps) × (ls' ≡ ls)
-  pub taken : checkMeant a ≡ none → NewTaken c n k entry ts ts' qs ps ps' ls ls' ws s
+pub record NewDone (c : SchedConfig) (n : ℕ) (k : Capacities) (entry : ℕ) (m m' : Memory) (s : Sched) (a : CallAnswer) : Type 0 where
+  pub answer : checkMeant a ≡ newRefusal c n k (length (m .threads)) (length (m .queue)) (length (m .prios)) (length (m .log)) (length (m .lanes))
+  pub refused : (i : ℕ) → checkMeant a ≡ some i → Unchanged m m'
+  pub taken : checkMeant a ≡ none → NewTaken c n k entry m m' s

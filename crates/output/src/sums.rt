@@ -11,7 +11,7 @@ ghost use lib.ListN.{length};
 ghost use Rattle.text.specs.Bytes.{decimal};
 ghost use Rattle.text.specs.Buffers.{Put};
 ghost use Rattle.model.specs.declared.ThreadInfo.{ThreadInfo};
-ghost use Rattle.state.specs.State.{meant};
+ghost use Rattle.state.specs.State.{meantAt};
 ghost use Rattle.summary.specs.Reading.{sumsMeant, Summed};
 ghost use Rattle.summary.specs.Fit.{Fit};
 ghost use Rattle.script.specs.Report.{tenths, meanText, summaryText, summary};
@@ -93,7 +93,7 @@ pub fn put_summary(out: &mut [u8], at: usize, sums: Sums) -> usize
 // The summary of a scheduler's state, from the sums over its thread records (`threads::totals`).
 pub fn put_summary_of(out: &mut [u8], at: usize, s: Sched, totals: Totals) -> usize
     requires { ⌜ ((ts : List ThreadInfo) × (qs : List ℕ) × (ps : List ℕ) × (ls : List ℕ) × (ws : List ℕ) × Summed s totals ts qs ps ls ws) × (at + 400 ≤ length (now out)) ⌝ }
-    ensures text { λ r. ⌜ ((ts : List ThreadInfo) (qs ps ls ws : List ℕ) → Summed s totals ts qs ps ls ws → Put (now (out .entry)) at (summary (meant s ts qs ls ws)) (now (out .exit)) r) ⌝ }
+    ensures text { λ r. ⌜ ((ts : List ThreadInfo) (qs ps ls ws : List ℕ) → Summed s totals ts qs ps ls ws → Put (now (out .entry)) at (summary (meantAt s ts qs ls ws)) (now (out .exit)) r) ⌝ }
     ensures short { λ r. ⌜ r ≤ at + 400 ⌝ }
 {
     let n = sums_of(s, totals);

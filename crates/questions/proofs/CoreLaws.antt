@@ -21,7 +21,8 @@ use Rattle.model.specs.Questions.{nextTid, findFrom, coreOf, orEmpty, timelineO
 use Rattle.model.specs.Reading.{coreStateMeant, coreTicksMeant, threadMeant}
 use Rattle.model.proofs.LoopLaws.{coreAt-getD}
 use Rattle.state.specs.declared.Sched.{Sched}
-use Rattle.state.specs.State.{firsts, coreFrom, statesOf, noTicks, noPos, laneWords, meant, Valid}
+use Rattle.state.specs.Memory.{memory}
+use Rattle.state.specs.State.{firsts, coreFrom, statesOf, noTicks, noPos, laneWords, meantAt, Valid}
 use Rattle.rings.specs.Timeline.{segmentsIn}
 use Rattle.state.proofs.Firsts.{length-firsts, getD-firsts}
 
@@ -41,18 +42,18 @@ core-there g n i u = coreAt-getD (firsts g n) i ∙ go (leb n i) refl
     go true e = List·getD-eq-default (firsts g n) idleCore (subst (λ (m : ℕ). m ≤ i) (sym (length-firsts g n)) (leb-true n i e)) ∙ sym (u (leb-true n i e))
     go false e = getD-firsts g n i idleCore (leb-false n i e)
 
-module _ (s : Sched) (ts : List ThreadInfo) (qs ps ls ws : List ℕ) (v : Valid s ts qs ps ls ws) where
-  pub core-state-is : (i : ℕ) → coreStateMeant (getD (statesOf (s .states)) i CoreStateCases.Idle) ≡ coreStateOf (meant s ts qs ls ws) i
-  unfolding coreStateOf meant coreFrom
+module _ (s : Sched) (ts : List ThreadInfo) (qs ps ls ws : List ℕ) (v : Valid s (memory ts qs ps ls ws)) where
+  pub core-state-is : (i : ℕ) → coreStateMeant (getD (statesOf (s .states)) i CoreStateCases.Idle) ≡ coreStateOf (meantAt s ts qs ls ws) i
+  unfolding coreStateOf meantAt coreFrom
   core-state-is i = sym (ap (λ (c : Core). c .state) (core-there (coreFrom (statesOf (s .states)) (s .exits) (s .blocks) (s .yields) (s .progressed)) (s .cores) i (v .marks .unused i)))
 
-  pub next-is : s .threads ≡ nextTid (meant s ts qs ls ws)
-  unfolding nextTid meant
+  pub next-is : s .threads ≡ nextTid (meantAt s ts qs ls ws)
+  unfolding nextTid meantAt
   next-is = sym (length-map (take (s .threads) ts) threadMeant ∙ length-take-le (s .threads) ts (omega (arith, v .sizes .inUse, v .sizes .threads)))
 
 -- counters by place
-pub counters-at : (s : Sched) (ts : List ThreadInfo) (qs ls ws : List ℕ) (i : ℕ) → i < s .cores → some (coreTicksMeant (getD (s .ticks) i noTicks)) ≡ getElem? (meant s ts qs ls ws .accounts .ticks) i
-unfolding meant
+pub counters-at : (s : Sched) (ts : List ThreadInfo) (qs ls ws : List ℕ) (i : ℕ) → i < s .cores → some (coreTicksMeant (getD (s .ticks) i noTicks)) ≡ getElem? (meantAt s ts qs ls ws .accounts .ticks) i
+unfolding meantAt
 counters-at s ts qs ls ws i h = sym (getElem-firsts (λ (j : ℕ). coreTicksMeant (getD (s .ticks) j noTicks)) (s .cores) i h)
 
 ---- the core that a thread is on, found by going up
@@ -78,14 +79,14 @@ module _ (t : ℕ) (g : ℕ → Core) (n : ℕ) where
   find-none i h = rw (drop-of-length-le (firsts g n) (subst (λ (m : ℕ). m ≤ i) (sym (length-firsts g n)) h))
 
 -- the whole search, over the arrays
-pub core-found : (s : Sched) (a : List Program.CoreState) (t : ℕ) (ts : List ThreadInfo) (qs ls ws : List ℕ) → a ≡ statesOf (s .states) → coreOf (meant s ts qs ls ws) t ≡ from t (coreFrom a (s .exits) (s .blocks) (s .yields) (s .progressed)) (s .cores) 0
-unfolding coreOf meant
+pub core-found : (s : Sched) (a : List Program.CoreState) (t : ℕ) (ts : List ThreadInfo) (qs ls ws : List ℕ) → a ≡ statesOf (s .states) → coreOf (meantAt s ts qs ls ws) t ≡ from t (coreFrom a (s .exits) (s .blocks) (s .yields) (s .progressed)) (s .cores) 0
+unfolding coreOf meantAt
 core-found s a t ts qs ls ws e = ap (λ (l : List Program.CoreState). findFrom 0 t (firsts (coreFrom l (s .exits) (s .blocks) (s .yields) (s .progressed)) (s .cores))) (sym e)
 
 ---- timelines
 
-pub timeline-at : (s : Sched) (ts : List ThreadInfo) (qs ls ws : List ℕ) (i : ℕ) → i < s .cores → timelineOf (meant s ts qs ls ws) i ≡ segmentsIn (laneWords (s .capacities .segments) i ws) (getD (s .lanes) i noPos)
-unfolding timelineOf meant orEmpty
+pub timeline-at : (s : Sched) (ts : List ThreadInfo) (qs ls ws : List ℕ) (i : ℕ) → i < s .cores → timelineOf (meantAt s ts qs ls ws) i ≡ segmentsIn (laneWords (s .capacities .segments) i ws) (getD (s .lanes) i noPos)
+unfolding timelineOf meantAt orEmpty
 timeline-at s ts qs ls ws i h = rw (getElem-firsts (λ (j : ℕ). segmentsIn (laneWords (s .capacities .segments) j ws) (getD (s .lanes) j noPos)) (s .cores) i h)
 
 -- a core's words end where the next core's begin

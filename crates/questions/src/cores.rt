@@ -20,11 +20,13 @@ ghost use Rattle.model.specs.Calls.{coreStateOf};
 ghost use Rattle.model.specs.Questions.{runner, runningOn, threadOn, coreOf};
 ghost use Rattle.model.specs.Accounting.{isHolder};
 ghost use Rattle.model.specs.Reading.{coreStateMeant, coreTicksMeant, optionTidMeant, optionCoreMeant};
-ghost use Rattle.state.specs.State.{meant, Valid};
+ghost use Rattle.state.specs.Memory.{memory};
+ghost use Rattle.state.specs.State.{meantAt, Valid};
 
 // What a core does; idle where there is none.
 pub fn core_state(s: Sched, core: CoreId) -> CoreState
-    ensures { λ r. ⌜ ((ts : List ThreadInfo) (qs ps ls ws : List ℕ) → Valid s ts qs ps ls ws → coreStateMeant r ≡ coreStateOf (meant s ts qs ls ws) (core .0)) ⌝ }
+    ensures { λ r. ⌜ ((ts : List ThreadInfo) (qs ps ls ws : List ℕ) → Valid s (memory ts qs ps ls ws)
+        → coreStateMeant r ≡ coreStateOf (meantAt s ts qs ls ws) (core .0)) ⌝ }
 {
     let states = s.states;
     state_at(states, core.0 as usize)
@@ -52,14 +54,16 @@ fn held_in(state: CoreState) -> OptionTid
 
 // The thread that a core executes; a core that switches to one holds it but does not execute it yet.
 pub fn running_on(s: Sched, core: CoreId) -> OptionTid
-    ensures { λ r. ⌜ ((ts : List ThreadInfo) (qs ps ls ws : List ℕ) → Valid s ts qs ps ls ws → optionTidMeant r ≡ runningOn (meant s ts qs ls ws) (core .0)) ⌝ }
+    ensures { λ r. ⌜ ((ts : List ThreadInfo) (qs ps ls ws : List ℕ) → Valid s (memory ts qs ps ls ws)
+        → optionTidMeant r ≡ runningOn (meantAt s ts qs ls ws) (core .0)) ⌝ }
 {
     running_in(core_state(s, core))
 }
 
 // The thread on a core, running or switching in.
 pub fn thread_on(s: Sched, core: CoreId) -> OptionTid
-    ensures { λ r. ⌜ ((ts : List ThreadInfo) (qs ps ls ws : List ℕ) → Valid s ts qs ps ls ws → optionTidMeant r ≡ threadOn (meant s ts qs ls ws) (core .0)) ⌝ }
+    ensures { λ r. ⌜ ((ts : List ThreadInfo) (qs ps ls ws : List ℕ) → Valid s (memory ts qs ps ls ws)
+        → optionTidMeant r ≡ threadOn (meantAt s ts qs ls ws) (core .0)) ⌝ }
 {
     held_in(core_state(s, core))
 }
@@ -67,7 +71,8 @@ pub fn thread_on(s: Sched, core: CoreId) -> OptionTid
 // One core's counters; none where there is no such core, as the list of counters has none.
 pub fn core_ticks(s: Sched, core: CoreId) -> CoreTicks
     requires { ⌜ (s .cores ≤ 8) × (core .0 < s .cores) ⌝ }
-    ensures { λ r. ⌜ ((ts : List ThreadInfo) (qs ps ls ws : List ℕ) → Valid s ts qs ps ls ws → some (coreTicksMeant r) ≡ getElem? (meant s ts qs ls ws .accounts .ticks) (core .0)) ⌝ }
+    ensures { λ r. ⌜ ((ts : List ThreadInfo) (qs ps ls ws : List ℕ) → Valid s (memory ts qs ps ls ws)
+        → some (coreTicksMeant r) ≡ getElem? (meantAt s ts qs ls ws .accounts .ticks) (core .0)) ⌝ }
 {
     let i = core.0 as usize;
     s.ticks[i]
@@ -86,7 +91,7 @@ fn is_held_by(state: CoreState, tid: Tid) -> bool
 // The core that a thread is on, running or switching in.
 pub fn core_of(s: Sched, tid: Tid) -> OptionCore
     requires { ⌜ s .cores ≤ 8 ⌝ }
-    ensures { λ r. ⌜ ((ts : List ThreadInfo) (qs ls ws : List ℕ) → optionCoreMeant r ≡ coreOf (meant s ts qs ls ws) (tid .0)) ⌝ }
+    ensures { λ r. ⌜ ((ts : List ThreadInfo) (qs ls ws : List ℕ) → optionCoreMeant r ≡ coreOf (meantAt s ts qs ls ws) (tid .0)) ⌝ }
 {
     let states = s.states;
     let a = unpack(states);

@@ -14,7 +14,8 @@ use Rattle.model.specs.Calls.{Call, spawn, exit, join, retired, yield, priority
 use Rattle.model.proofs.Bounded.{accept-cores}
 use Rattle.state.specs.declared.Capacities.{Capacities}
 use Rattle.state.specs.declared.Sched.{Sched}
-use Rattle.state.specs.State.{meant, Valid, laneStart}
+use Rattle.state.specs.Memory.{memory}
+use Rattle.state.specs.State.{meantAt, Valid, laneStart}
 use Rattle.state.specs.Done as D
 use Rattle.state.proofs.Firsts.{length-firsts}
 use Rattle.new_plan.specs.First.{coreCount}
@@ -69,10 +70,10 @@ pub record Alike (s t : Sched) : Type 0 where
   pub segments : t .capacities .segments ≡ s .capacities .segments
   pub cores : t .cores ≡ s .cores
 
-pub alike : (s t : Sched) (ts ts' : List ThreadInfo) (qs qs' ls ls' ws ws' : List ℕ) (cs : List Call) → meant t ts' qs' ls' ws' ≡ run (meant s ts qs ls ws) cs → Alike s t
-unfolding meant
+pub alike : (s t : Sched) (ts ts' : List ThreadInfo) (qs qs' ls ls' ws ws' : List ℕ) (cs : List Call) → meantAt t ts' qs' ls' ws' ≡ run (meantAt s ts qs ls ws) cs → Alike s t
+unfolding meantAt
 alike s t ts ts' qs qs' ls ls' ws ws' cs e =
-    let h = fixed-run (meant s ts qs ls ws) cs in
+    let h = fixed-run (meantAt s ts qs ls ws) cs in
     record {
       threads = ap (λ (x : State). x .config .capT) e ∙ h .capT;
       events = ap (λ (x : State). x .config .capE) e ∙ h .capE;
@@ -87,17 +88,17 @@ drop-up i j l l' h e =
     let p : i + (j - i) ≡ j = omega arith in
     subst (λ (k : ℕ). drop k l' ≡ drop k l) p (sym (drop-drop (j - i) i l') ∙ ap (drop (j - i)) e ∙ drop-drop (j - i) i l)
 
-pub behind-none : (T E S c : ℕ) (ts : List ThreadInfo) (qs ps ls ws : List ℕ) → Behind T E S c ts ts qs qs ps ps ls ls ws ws
+pub behind-none : (T E S c : ℕ) (ts : List ThreadInfo) (qs ps ls ws : List ℕ) → Behind T E S c (memory ts qs ps ls ws) (memory ts qs ps ls ws)
 behind-none T E S c ts qs ps ls ws = record { threads = refl; queue = refl; prios = refl; log = refl; lanes = refl }
 
 module _ (T E S c : ℕ) (ts ts' ts″ : List ThreadInfo) (qs qs' qs″ ps ps' ps″ ls ls' ls″ ws ws' ws″ : List ℕ) where
-  pub behind-both : Behind T E S c ts ts' qs qs' ps ps' ls ls' ws ws' → Behind T E S c ts' ts″ qs' qs″ ps' ps″ ls' ls″ ws' ws″ → Behind T E S c ts ts″ qs qs″ ps ps″ ls ls″ ws ws″
+  pub behind-both : Behind T E S c (memory ts qs ps ls ws) (memory ts' qs' ps' ls' ws') → Behind T E S c (memory ts' qs' ps' ls' ws') (memory ts″ qs″ ps″ ls″ ws″) → Behind T E S c (memory ts qs ps ls ws) (memory ts″ qs″ ps″ ls″ ws″)
   behind-both h k = record { threads = k .threads ∙ h .threads; queue = k .queue ∙ h .queue; prios = k .prios ∙ h .prios; log = k .log ∙ h .log; lanes = k .lanes ∙ h .lanes }
 
 module _ (s t : Sched) (ts ts' : List ThreadInfo) (qs qs' ps ps' ls ls' ws ws' : List ℕ) where
   -- what one call leaves, at the capacities of a state that has the same
   pub behind-call : (T E S c : ℕ) → T ≡ s .capacities .threads → E ≡ s .capacities .events → S ≡ s .capacities .segments → c ≡ s .cores → Alike s t
-      → Valid s ts qs ps ls ws → Valid t ts' qs' ps' ls' ws' → D.Frame s t ts ts' qs qs' ps ps' ls ls' ws ws' → Behind T E S c ts ts' qs qs' ps ps' ls ls' ws ws'
+      → Valid s (memory ts qs ps ls ws) → Valid t (memory ts' qs' ps' ls' ws') → D.Frame s t (memory ts qs ps ls ws) (memory ts' qs' ps' ls' ws') → Behind T E S c (memory ts qs ps ls ws) (memory ts' qs' ps' ls' ws')
   behind-call T E S c eT eE eS ec a v v' f =
       let same : t .capacities .threads ≡ s .capacities .threads = a .threads in
       let used : t .threads ≤ t .capacities .threads = v' .sizes .inUse in
@@ -128,30 +129,30 @@ new-state p q w n t e c entry s h = go (refusedNew q w n t e c) h
     go (some m) es = absurd (let z : _≡_ {A = ℕ} 0 1 = cc in omega arith)
     go none es = ap stateOf es
 
-module _ (c : SchedConfig) (n : ℕ) (k : Capacities) (entry : ℕ) (m : Sched) (ts ts₁ : List ThreadInfo) (qs ps ps₁ ls ls₁ ws : List ℕ) (e : new (policyMeant (c .policy)) (c .quantum) (c .«switch_cost») n (k .threads) (k .events) (k .segments) entry ≡ made (meant m ts₁ qs ls₁ ws)) where
-  first-is : initialState (pred n) entry (record { policy = policyMeant (c .policy); quantum = c .quantum; cost = c .«switch_cost»; capT = k .threads; capE = k .events; capS = k .segments }) ≡ meant m ts₁ qs ls₁ ws
-  first-is = new-state (policyMeant (c .policy)) (c .quantum) (c .«switch_cost») n (k .threads) (k .events) (k .segments) entry (meant m ts₁ qs ls₁ ws) e
+module _ (c : SchedConfig) (n : ℕ) (k : Capacities) (entry : ℕ) (m : Sched) (ts ts₁ : List ThreadInfo) (qs ps ps₁ ls ls₁ ws : List ℕ) (e : new (policyMeant (c .policy)) (c .quantum) (c .«switch_cost») n (k .threads) (k .events) (k .segments) entry ≡ made (meantAt m ts₁ qs ls₁ ws)) where
+  first-is : initialState (pred n) entry (record { policy = policyMeant (c .policy); quantum = c .quantum; cost = c .«switch_cost»; capT = k .threads; capE = k .events; capS = k .segments }) ≡ meantAt m ts₁ qs ls₁ ws
+  first-is = new-state (policyMeant (c .policy)) (c .quantum) (c .«switch_cost») n (k .threads) (k .events) (k .segments) entry (meantAt m ts₁ qs ls₁ ws) e
 
   pub first-threads : k .threads ≡ m .capacities .threads
-  unfolding initialState meant
+  unfolding initialState meantAt
   first-threads = ap (λ (x : State). x .config .capT) first-is
 
   pub first-events : k .events ≡ m .capacities .events
-  unfolding initialState meant
+  unfolding initialState meantAt
   first-events = ap (λ (x : State). x .config .capE) first-is
 
   pub first-segments : k .segments ≡ m .capacities .segments
-  unfolding initialState meant
+  unfolding initialState meantAt
   first-segments = ap (λ (x : State). x .config .capS) first-is
 
   pub first-cores : coreCount n ≡ m .cores
-  unfolding initialState meant coreCount
+  unfolding initialState meantAt coreCount
   first-cores = sym (ap suc (length-replicate (pred n) idleCore)) ∙ ap (λ (x : State). length (x .cores)) first-is ∙ length-firsts _ (m .cores)
 
-  pub first-some : Valid m ts₁ qs ps₁ ls₁ ws → 1 ≤ k .threads
-  unfolding meant
+  pub first-some : Valid m (memory ts₁ qs ps₁ ls₁ ws) → 1 ≤ k .threads
+  unfolding meantAt
   first-some v = subst (λ (x : ℕ). 1 ≤ x) (sym first-threads) (v .bounded .settings .capT)
 
   -- it writes the first record and priority, and the log
-  pub behind-new : 1 ≤ k .threads → drop 1 ts₁ ≡ drop 1 ts → drop 1 ps₁ ≡ drop 1 ps → drop (2 * k .events) ls₁ ≡ drop (2 * k .events) ls → Behind (k .threads) (k .events) (k .segments) (coreCount n) ts ts₁ qs qs ps ps₁ ls ls₁ ws ws
+  pub behind-new : 1 ≤ k .threads → drop 1 ts₁ ≡ drop 1 ts → drop 1 ps₁ ≡ drop 1 ps → drop (2 * k .events) ls₁ ≡ drop (2 * k .events) ls → Behind (k .threads) (k .events) (k .segments) (coreCount n) (memory ts qs ps ls ws) (memory ts₁ qs ps₁ ls₁ ws)
   behind-new pos a b d = record { threads = drop-up 1 (k .threads) ts ts₁ pos a; queue = refl; prios = drop-up 1 (k .threads) ps ps₁ pos b; log = d; lanes = refl }

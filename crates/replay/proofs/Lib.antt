@@ -1,4 +1,3 @@
-pub mod Creating
 pub mod Encoded
 pub mod Framed
 pub mod Lists

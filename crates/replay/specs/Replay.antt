@@ -11,6 +11,7 @@ use Rattle.model.specs.Types.{RoundRobin, State}
 use Rattle.model.specs.Calls.{Call, Answer, ok, step, run, new, made}
 use Rattle.model.specs.Claims.{unobserved, observeAll, WaitHolds, StayHolds}
 use Rattle.state.specs.declared.Capacities.{Capacities}
+use Rattle.state.specs.Memory.{Memory, Unchanged}
 use Rattle.state.specs.State.{meant, Valid, laneStart}
 use Rattle.checks.specs.Check.{checkMeant}
 use Rattle.new_plan.specs.First.{coreCount, newRefusal}
@@ -30,35 +31,35 @@ due (some m) w u = 0
 due none w u = min u (w / 3)
 
 -- memory behind what T thread records, E events and S segments on each of c cores take
-pub record Behind (T E S c : ℕ) (ts ts' : List ThreadInfo) (qs qs' ps ps' ls ls' ws ws' : List ℕ) : Type 0 where
-  pub threads : drop T ts' ≡ drop T ts
-  pub queue : drop T qs' ≡ drop T qs
-  pub prios : drop T ps' ≡ drop T ps
-  pub log : drop (2 * E) ls' ≡ drop (2 * E) ls
-  pub lanes : drop (laneStart S c) ws' ≡ drop (laneStart S c) ws
+pub record Behind (T E S c : ℕ) (m m' : Memory) : Type 0 where
+  pub threads : drop T (m' .threads) ≡ drop T (m .threads)
+  pub queue : drop T (m' .queue) ≡ drop T (m .queue)
+  pub prios : drop T (m' .prios) ≡ drop T (m .prios)
+  pub log : drop (2 * E) (m' .log) ≡ drop (2 * E) (m .log)
+  pub lanes : drop (laneStart S c) (m' .lanes) ≡ drop (laneStart S c) (m .lanes)
 
 -- What the calls `cs` leave, made one after the other, each on what the one before left.
-pub record AppliedAll (cs : List Call) (first last : Applied) (ts ts' : List ThreadInfo) (qs qs' ps ps' ls ls' ws ws' : List ℕ) : Type 0 where
-  pub unmoved : cs ≡ [] → (last ≡ first) × (ts' ≡ ts) × (qs' ≡ qs) × (ps' ≡ ps) × (ls' ≡ ls) × (ws' ≡ ws)
-  pub state : Valid (first .sched) ts qs ps ls ws → meant (last .sched) ts' qs' ls' ws' ≡ run (meant (first .sched) ts qs ls ws) cs
-  pub answer : Valid (first .sched) ts qs ps ls ws → outcomeMeant (last .outcome) (last .switches) ≡ lastAnswer (outcomeMeant (first .outcome) (first .switches)) (meant (first .sched) ts qs ls ws) cs
-  pub valid : Valid (first .sched) ts qs ps ls ws → Valid (last .sched) ts' qs' ps' ls' ws'
-  pub behind : Valid (first .sched) ts qs ps ls ws → Behind (first .sched .capacities .threads) (first .sched .capacities .events) (first .sched .capacities .segments) (first .sched .cores) ts ts' qs qs' ps ps' ls ls' ws ws'
+pub record AppliedAll (cs : List Call) (first last : Applied) (m m' : Memory) : Type 0 where
+  pub unmoved : cs ≡ [] → (last ≡ first) × Unchanged m m'
+  pub state : Valid (first .sched) m → meant (last .sched) m' ≡ run (meant (first .sched) m) cs
+  pub answer : Valid (first .sched) m → outcomeMeant (last .outcome) (last .switches) ≡ lastAnswer (outcomeMeant (first .outcome) (first .switches)) (meant (first .sched) m) cs
+  pub valid : Valid (first .sched) m → Valid (last .sched) m'
+  pub behind : Valid (first .sched) m → Behind (first .sched .capacities .threads) (first .sched .capacities .events) (first .sched .capacities .segments) (first .sched .cores) m m'
 
 -- Where `new` is accepted. `cs` is the whole list of calls, of which the first `upto` were made; `start` is the state of the definition's own run,
 -- which is fed "the arguments of `new` and of the calls, never the program's state or what lent memory holds".
-pub record ReplayTaken (c : SchedConfig) (n : ℕ) (k : Capacities) (entry : ℕ) (cs : List Call) (upto : ℕ) (ts ts' : List ThreadInfo) (qs qs' ps ps' ls ls' ws ws' : List ℕ) (r : Replayed) : Type 0 where
+pub record ReplayTaken (c : SchedConfig) (n : ℕ) (k : Capacities) (entry : ℕ) (cs : List Call) (upto : ℕ) (m m' : Memory) (r : Replayed) : Type 0 where
   pub start : State
   -- what the definition's `new` makes of the same arguments
   pub begins : new (policyMeant (c .policy)) (c .quantum) (c .«switch_cost») n (k .threads) (k .events) (k .segments) entry ≡ made start
   -- "core states and counters, queue, `now` and thread records equal the definition's after `new` and after every call"
-  pub state : meant (r .sched) ts' qs' ls' ws' ≡ run start (take upto cs)
+  pub state : meant (r .sched) m' ≡ run start (take upto cs)
   -- "the program's answers, switch lists": the answer to the last of these calls, a tick's or a force's with its switch list
   pub answer : outcomeMeant (r .outcome) (r .switches) ≡ lastAnswer ok start (take upto cs)
   -- "each call gets what the one before left": it is all that a call asks
-  pub valid : Valid (r .sched) ts' qs' ps' ls' ws'
+  pub valid : Valid (r .sched) m'
   -- memory that the capacities do not name stays as it was
-  pub behind : Behind (k .threads) (k .events) (k .segments) (coreCount n) ts ts' qs qs' ps ps' ls ls' ws ws'
+  pub behind : Behind (k .threads) (k .events) (k .segments) (coreCount n) m m'
   -- the two guarantees are read off the same run
   pub oneRun : (before : List Call) → observeAll (unobserved start) before .state ≡ run start before
   -- "It starts from what an accepted `new` with policy rr left": wherever the list is cut, the guarantees hold of what follows
@@ -66,10 +67,10 @@ pub record ReplayTaken (c : SchedConfig) (n : ℕ) (k : Capacities) (entry : ℕ
   pub stays : policyMeant (c .policy) ≡ RoundRobin → (before during : List Call) → before ++ during ≡ cs → StayHolds (c .quantum) (c .«switch_cost») start before during
 
 -- What `replay` promises. The words are any list and `upto` is any number, so this speaks of the state and of the answer after `new` and after every call of every list.
--- c, n, k and entry are the arguments of `new`; ts, qs, ps, ls and ws are the lent thread records, queue, priority numbers, log and lanes before, with a prime after; r is the result.
-pub record ReplayDone (c : SchedConfig) (n : ℕ) (k : Capacities) (entry : ℕ) (words : List ℕ) (upto : ℕ) (ts ts' : List ThreadInfo) (qs qs' ps ps' ls ls' ws ws' : List ℕ) (r : Replayed) : Type 0 where
+-- c, n, k and entry are the arguments of `new`; m is the lent memory before and m' after; r is the result.
+pub record ReplayDone (c : SchedConfig) (n : ℕ) (k : Capacities) (entry : ℕ) (words : List ℕ) (upto : ℕ) (m m' : Memory) (r : Replayed) : Type 0 where
   -- "`new` checks 1, 2, 3."
-  pub answer : checkMeant (r .made) ≡ newRefusal c n k (length ts) (length qs) (length ps) (length ls) (length ws)
+  pub answer : checkMeant (r .made) ≡ newRefusal c n k (length (m .threads)) (length (m .queue)) (length (m .prios)) (length (m .log)) (length (m .lanes))
   -- refused, it makes no scheduler: no call is made, and nothing is written; what r holds beside the refusal is then left open
-  pub refused : (m : ℕ) → checkMeant (r .made) ≡ some m → (ts' ≡ ts) × (qs' ≡ qs) × (ps' ≡ ps) × (ls' ≡ ls) × (ws' ≡ ws)
-  pub taken : checkMeant (r .made) ≡ none → ReplayTaken c n k entry (callsOf words) upto ts ts' qs qs' ps ps' ls ls' ws ws' r
+  pub refused : (i : ℕ) → checkMeant (r .made) ≡ some i → Unchanged m m'
+  pub taken : checkMeant (r .made) ≡ none → ReplayTaken c n k entry (callsOf words) upto m m' r

@@ -19,6 +19,7 @@ ghost use mathlib.Core.Path.{_≡_};
 ghost use Prim.Native.Nat.{_+_, _*_, _<_, _≤_, min};
 ghost use lib.ListN.{length, take};
 ghost use Rattle.model.specs.Calls.{ok};
+ghost use Rattle.state.specs.Memory.{lent};
 ghost use Rattle.state.specs.State.{Valid};
 ghost use Rattle.checks.specs.Check.{checkMeant};
 ghost use Rattle.sched.specs.Meant.{callMeant, outcomeMeant};
@@ -128,8 +129,10 @@ fn apply_all(
     log: &mut [u64],
     lanes: &mut [u64],
 ) -> Applied
-    requires { ⌜ (3 * n ≤ length (now calls)) × (0 < n → Valid (first .sched) (now threads) (now queue) (now prios) (now log) (now lanes)) ⌝ }
-    ensures { λ r. ⌜ AppliedAll (take n (callsOf (now (calls .entry)))) first r (now (threads .entry)) (now (threads .exit)) (now (queue .entry)) (now (queue .exit)) (now (prios .entry)) (now (prios .exit)) (now (log .entry)) (now (log .exit)) (now (lanes .entry)) (now (lanes .exit)) ⌝ }
+    requires { ⌜ (3 * n ≤ length (now calls)) × (0 < n → Valid (first .sched) (lent threads queue prios log lanes)) ⌝ }
+    ensures { λ r. ⌜ AppliedAll (take n (callsOf (now (calls .entry)))) first r
+        (lent (threads .entry) (queue .entry) (prios .entry) (log .entry) (lanes .entry))
+        (lent (threads .exit) (queue .exit) (prios .exit) (log .exit) (lanes .exit)) ⌝ }
 {
     let mut last = first;
     let mut i = 0;
@@ -157,7 +160,9 @@ pub fn replay(
     log: &mut [u64],
     lanes: &mut [u64],
 ) -> Replayed
-    ensures { λ r. ⌜ ReplayDone config cores capacities «entry_pc» (now (calls .entry)) upto (now (threads .entry)) (now (threads .exit)) (now (queue .entry)) (now (queue .exit)) (now (prios .entry)) (now (prios .exit)) (now (log .entry)) (now (log .exit)) (now (lanes .entry)) (now (lanes .exit)) r ⌝ }
+    ensures { λ r. ⌜ ReplayDone config cores capacities «entry_pc» (now (calls .entry)) upto
+        (lent (threads .entry) (queue .entry) (prios .entry) (log .entry) (lanes .entry))
+        (lent (threads .exit) (queue .exit) (prios .exit) (log .exit) (lanes .exit)) r ⌝ }
 {
     let created = new(
         config,

@@ -5,6 +5,7 @@ use replay::replay;
 use settings::SchedConfig;
 use state::Capacities;
 ghost use mathlib.Core.Path.{_≡_};
+ghost use Rattle.state.specs.Memory.{memory};
 ghost use Rattle.replay.specs.Replay.{ReplayDone};
 
 // What the calls leave, with the records.
@@ -33,7 +34,9 @@ pub fn replay_in(
     log: &mut [u64],
     lanes: &mut [u64],
 ) -> ReplayedArray
-    ensures { λ r. ⌜ ReplayDone config cores capacities «entry_pc» (now (calls .entry)) upto threads (r .threads) (now (queue .entry)) (now (queue .exit)) (now (prios .entry)) (now (prios .exit)) (now (log .entry)) (now (log .exit)) (now (lanes .entry)) (now (lanes .exit)) (r .replayed) ⌝ }
+    ensures { λ r. ⌜ ReplayDone config cores capacities «entry_pc» (now (calls .entry)) upto
+        (memory threads (now (queue .entry)) (now (prios .entry)) (now (log .entry)) (now (lanes .entry)))
+        (memory (r .threads) (now (queue .exit)) (now (prios .exit)) (now (log .exit)) (now (lanes .exit))) (r .replayed) ⌝ }
 {
     let mut records = threads;
     let replayed = replay(

@@ -14,7 +14,8 @@ use Rattle.model.specs.Types.{State}
 use Rattle.model.specs.Calls.{Answer, ok, check, retired, step}
 use Rattle.rcfg.specs.declared.Head.{Head}
 use Rattle.state.specs.declared.Sched.{Sched}
-use Rattle.state.specs.State.{meant, Valid}
+use Rattle.state.specs.Memory.{memory}
+use Rattle.state.specs.State.{meantAt, Valid}
 use Rattle.state.specs.Done.{Done}
 use Rattle.checks.specs.Check.{retiredRefusal}
 use Rattle.sched_marks.specs.Change.{withProgressed}
@@ -68,22 +69,22 @@ counting-twice d = ap (λ (n : ℕ). record { lines = n; stage = d .stage }) (go
 
 module _ (ts : List ThreadInfo) (qs ps ls ws : List ℕ) where
   abbrev at-calls : ℕ → Sched → Definition.Report
-  at-calls n s = record { lines = n; stage = Definition.calls (meant s ts qs ls ws) }
+  at-calls n s = record { lines = n; stage = Definition.calls (meantAt s ts qs ls ws) }
 
   -- one line
-  one-done : (s : Sched) (c : ℕ) → Valid s ts qs ps ls ws → c < s .cores → s .closed ≡ false → Done (retired c) ok s (withProgressed (set (s .progressed) c true) s) ts ts qs qs ps ps ls ls ws ws
+  one-done : (s : Sched) (c : ℕ) → Valid s (memory ts qs ps ls ws) → c < s .cores → s .closed ≡ false → Done (retired c) ok s (withProgressed (set (s .progressed) c true) s) (memory ts qs ps ls ws) (memory ts qs ps ls ws)
   one-done s c v h e = retired-taken s ts qs ps ls ws v c ok (set (s .progressed) c true) refl refl (unrefused s c h e)
 
-  one-feed : (n : ℕ) (s : Sched) (c : ℕ) → Valid s ts qs ps ls ws → c < s .cores → c < 8 → s .closed ≡ false → suc n ≤ 1_000_000_000_000
+  one-feed : (n : ℕ) (s : Sched) (c : ℕ) → Valid s (memory ts qs ps ls ws) → c < s .cores → c < 8 → s .closed ≡ false → suc n ≤ 1_000_000_000_000
       → feed (at-calls n s) (retiredLine c) ≡ record { report = at-calls (suc n) (withProgressed (set (s .progressed) c true) s); out = [] }
   unfolding said answerText
   one-feed n s c v h k e few =
       let d = one-done s c v h e in
-      retired-feed n (meant s ts qs ls ws) c k few ∙
+      retired-feed n (meantAt s ts qs ls ws) c k few ∙
       ap₂ (λ (t : State) (a : Answer). Definition.at (suc n) (Definition.calls t) (answerText (suc n) (t .now) a)) (sym (d .state)) (sym (d .answer))
 
   -- all of them
-  pub all-feeds : (cs : List ℕ) (n : ℕ) (s : Sched) → Valid s ts qs ps ls ws → Each (s .cores) cs → s .closed ≡ false → n + length cs ≤ 1_000_000_000_000
+  pub all-feeds : (cs : List ℕ) (n : ℕ) (s : Sched) → Valid s (memory ts qs ps ls ws) → Each (s .cores) cs → s .closed ≡ false → n + length cs ≤ 1_000_000_000_000
       → feeds (at-calls n s) (cut (retiredLines cs)) ≡ record { report = at-calls (n + length cs) (withProgressed (marksAfter cs (s .progressed)) s); out = [] }
   unfolding retiredLines marksAfter feeds cut
   all-feeds [] n s v e h few = let k : n ≡ n + 0 = omega arith in ap (λ (i : ℕ). record { report = at-calls i s; out = [] }) k
@@ -94,7 +95,7 @@ module _ (ts : List ThreadInfo) (qs ps ls ws : List ℕ) where
       feeds-first (at-calls n s) (retiredLine c) (cut (retiredLines cs)) _ _ (one-feed n s c v (e .0) (e .1 .0) h (omega arith)) (all-feeds cs (suc n) s′ (one-done s c v (e .0) h .valid) (e .1 .1) h (omega arith)) ∙
       ap (λ (i : ℕ). record { report = at-calls i (withProgressed (marksAfter cs (set (s .progressed) c true)) s); out = [] }) k
 
-  pub all-valid : (cs : List ℕ) (s : Sched) → Valid s ts qs ps ls ws → Each (s .cores) cs → s .closed ≡ false → Valid (withProgressed (marksAfter cs (s .progressed)) s) ts qs ps ls ws
+  pub all-valid : (cs : List ℕ) (s : Sched) → Valid s (memory ts qs ps ls ws) → Each (s .cores) cs → s .closed ≡ false → Valid (withProgressed (marksAfter cs (s .progressed)) s) (memory ts qs ps ls ws)
   unfolding marksAfter
   all-valid [] s v e h = v
   all-valid (c ∷ cs) s v e h = all-valid cs (withProgressed (set (s .progressed) c true) s) (one-done s c v (e .0) h .valid) (e .1 .1) h

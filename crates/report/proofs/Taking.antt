@@ -8,7 +8,7 @@ use lib.Seq.{paste}
 use Rattle.model.specs.declared.ThreadInfo.{ThreadInfo}
 use Rattle.text.specs.Buffers.{Put}
 use Rattle.text.specs.Lines.{cut}
-use Rattle.state.specs.State.{meant}
+use Rattle.state.specs.State.{meantAt}
 use Rattle.script.specs.Report as Definition
 use Rattle.script.proofs.Room.{finish-well}
 use Rattle.feed_plan.specs.declared.Report.{Report}
@@ -56,7 +56,7 @@ module _ (r : Report) (u : Upcoming) (i : ℕ) (c : Line) (m : Lists) (bs : List
   module _ (x : Next) (z : Lists) (claim : DoneIn r c m z x) (long : Long m z) where
     says-it : Definition.feed (reportMeant r (m .ts) (m .qs) (m .ls) (m .ws)) piece ≡ fedOf (reportMeant r (m .ts) (m .qs) (m .ls) (m .ws)) c
     unfolding reportMeant
-    says-it = reads .says (meant (r .sched) (m .ts) (m .qs) (m .ls) (m .ws))
+    says-it = reads .says (meantAt (r .sched) (m .ts) (m .qs) (m .ls) (m .ws))
 
     fits-in : Sayable x (replicate 288 0)
     fits-in = sayable r piece (m .ts) (m .qs) (m .ps) (m .ls) (m .ws) (runs .valid) c (z .ts) (z .qs) (z .ps) (z .ls) (z .ws) x says-it claim (replicate 288 0) (subst (λ (k : ℕ). 288 ≤ k) (sym (length-replicate {A = ℕ} 288 0)) (omega arith))

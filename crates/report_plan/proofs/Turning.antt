@@ -7,7 +7,7 @@ use lib.ListN.{length, drop, length-drop, replicate, length-replicate}
 use lib.Seq.{paste}
 use Rattle.text.specs.Buffers.{Put}
 use Rattle.model.specs.declared.ThreadInfo.{ThreadInfo}
-use Rattle.state.specs.State.{meant}
+use Rattle.state.specs.State.{meantAt}
 use Rattle.script.specs.Report as Definition
 use Rattle.feed_plan.specs.declared.Report.{Report}
 use Rattle.feed_plan.specs.declared.Line.{Line}
@@ -32,7 +32,7 @@ module _ (p : Progress) (script b : List ℕ) (ts : List ThreadInfo) (qs ps ls w
 
     turn-says : Definition.feed (reportMeant (p .report) ts qs ls ws) (piece p q script) ≡ fedOf (reportMeant (p .report) ts qs ls ws) (q .line)
     unfolding reportMeant
-    turn-says = k .reads .says (meant (p .report .sched) ts qs ls ws)
+    turn-says = k .reads .says (meantAt (p .report .sched) ts qs ls ws)
 
     module _ (x : Next) (ts' : List ThreadInfo) (qs' ps' ls' ws' : List ℕ) (c : LineDone (p .report) (q .line) ts ts' qs qs' ps ps' ls ls' ws ws' x) where
       pub turn-sayable : Sayable x (drop (p .at) b)

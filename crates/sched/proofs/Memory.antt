@@ -24,6 +24,7 @@ use denote.Enum.Laws as EL
 use Rattle.model.specs.declared.ThreadInfo.{ThreadInfo}
 use Rattle.model.specs.Calls as Calls
 use Rattle.state.specs.declared.Sched.{Sched}
+use Rattle.state.specs.Memory.{memory}
 use Rattle.state.specs.State.{Valid}
 use Rattle.state.specs.Done.{Done}
 use Rattle.walkkit.proofs.Again.{at-list}
@@ -55,7 +56,7 @@ pub record Lists : Type 0 where
   pub ws : List ℕ
 
 abbrev pub ValidIn : Sched → Lists → Type 0
-ValidIn st m = Valid st (m .ts) (m .qs) (m .ps) (m .ls) (m .ws)
+ValidIn st m = Valid st (memory (m .ts) (m .qs) (m .ps) (m .ls) (m .ws))
 
 pub record Long (m n : Lists) : Type 0 where
   pub threads : length (n .ts) ≡ length (m .ts)
@@ -65,7 +66,7 @@ pub record Long (m n : Lists) : Type 0 where
   pub lanes : length (n .ws) ≡ length (m .ws)
 
 pub record Known (c : Calls.Call) (a : Calls.Answer) (st st' : Sched) (m n : Lists) : Type 0 where
-  pub is-done : Done c a st st' (m .ts) (n .ts) (m .qs) (n .qs) (m .ps) (n .ps) (m .ls) (n .ls) (m .ws) (n .ws)
+  pub is-done : Done c a st st' (memory (m .ts) (m .qs) (m .ps) (m .ls) (m .ws)) (memory (n .ts) (n .qs) (n .ps) (n .ls) (n .ws))
   pub long : Long m n
 
 abbrev pub slice : (R : RattleType) → At → List (R .Denot) → Val

@@ -23,6 +23,7 @@ use sched_tick::end_tick;
 use settings::Refusal;
 use state::Sched;
 use switches::SwitchList;
+ghost use Rattle.state.specs.Memory.{lent};
 ghost use Rattle.state.specs.State.{Valid};
 ghost use Rattle.state.specs.Done.{Done};
 ghost use Rattle.sched.specs.Meant.{callMeant, outcomeMeant};
@@ -67,8 +68,10 @@ pub fn apply(
     log: &mut [u64],
     lanes: &mut [u64],
 ) -> Applied
-    requires { ⌜ Valid s (now threads) (now queue) (now prios) (now log) (now lanes) ⌝ }
-    ensures { λ r. ⌜ Done (callMeant call) (outcomeMeant (r .outcome) (r .switches)) s (r .sched) (now (threads .entry)) (now (threads .exit)) (now (queue .entry)) (now (queue .exit)) (now (prios .entry)) (now (prios .exit)) (now (log .entry)) (now (log .exit)) (now (lanes .entry)) (now (lanes .exit)) ⌝ }
+    requires { ⌜ Valid s (lent threads queue prios log lanes) ⌝ }
+    ensures { λ r. ⌜ Done (callMeant call) (outcomeMeant (r .outcome) (r .switches)) s (r .sched)
+        (lent (threads .entry) (queue .entry) (prios .entry) (log .entry) (lanes .entry))
+        (lent (threads .exit) (queue .exit) (prios .exit) (log .exit) (lanes .exit)) ⌝ }
 {
     match call {
         Call::Spawn(parent, entry_pc) => {

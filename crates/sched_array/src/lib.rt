@@ -9,6 +9,7 @@ use settings::SchedConfig;
 use state::Capacities;
 use state::Sched;
 ghost use mathlib.Core.Path.{_≡_};
+ghost use Rattle.state.specs.Memory.{memory};
 ghost use Rattle.state.specs.State.{Valid};
 ghost use Rattle.state.specs.Done.{Done};
 ghost use Rattle.sched.specs.Meant.{callMeant, outcomeMeant};
@@ -48,8 +49,10 @@ pub fn apply_in(
     log: &mut [u64],
     lanes: &mut [u64],
 ) -> Stepped
-    requires { ⌜ Valid s threads (now queue) (now prios) (now log) (now lanes) ⌝ }
-    ensures { λ r. ⌜ Done (callMeant call) (outcomeMeant (r .applied .outcome) (r .applied .switches)) s (r .applied .sched) threads (r .threads) (now (queue .entry)) (now (queue .exit)) (now (prios .entry)) (now (prios .exit)) (now (log .entry)) (now (log .exit)) (now (lanes .entry)) (now (lanes .exit)) ⌝ }
+    requires { ⌜ Valid s (memory threads (now queue) (now prios) (now log) (now lanes)) ⌝ }
+    ensures { λ r. ⌜ Done (callMeant call) (outcomeMeant (r .applied .outcome) (r .applied .switches)) s (r .applied .sched)
+        (memory threads (now (queue .entry)) (now (prios .entry)) (now (log .entry)) (now (lanes .entry)))
+        (memory (r .threads) (now (queue .exit)) (now (prios .exit)) (now (log .exit)) (now (lanes .exit))) ⌝ }
 {
     let mut records = threads;
     let applied = apply(s, call, &mut records, queue, prios, log, lanes);
@@ -68,7 +71,9 @@ pub fn new_in(
     log: &mut [u64],
     lanes: &[u64],
 ) -> Started
-    ensures { λ r. ⌜ NewDone config cores capacities «entry_pc» threads (r .threads) (now (queue .entry)) (now (prios .entry)) (now (prios .exit)) (now (log .entry)) (now (log .exit)) (now (lanes .entry)) (r .created .sched) (r .created .answer) ⌝ }
+    ensures { λ r. ⌜ NewDone config cores capacities «entry_pc»
+        (memory threads (now (queue .entry)) (now (prios .entry)) (now (log .entry)) (now (lanes .entry)))
+        (memory (r .threads) (now (queue .entry)) (now (prios .exit)) (now (log .exit)) (now (lanes .entry))) (r .created .sched) (r .created .answer) ⌝ }
 {
     let mut records = threads;
     let created = new(

@@ -13,6 +13,7 @@ ghost use mathlib.Core.List.{List};
 ghost use Prim.Native.Nat.{ℕ};
 ghost use Rattle.model.specs.Reading.{callAnswerMeant};
 ghost use Rattle.model.specs.Calls as Calls;
+ghost use Rattle.state.specs.Memory.{memory};
 ghost use Rattle.state.specs.State.{Valid};
 ghost use Rattle.state.specs.Done.{Done};
 
@@ -26,8 +27,11 @@ pub fn close(
     log: &mut [u64],
     lanes: &mut [u64],
 ) -> Answered
-    requires { ⌜ ((ps : List ℕ) × Valid s (now threads) (now queue) ps (now log) (now lanes)) ⌝ }
-    ensures { λ r. ⌜ ((ps : List ℕ) → Valid s (now (threads .entry)) (now (queue .entry)) ps (now (log .entry)) (now (lanes .entry)) → Done (Calls.close (core .0)) (callAnswerMeant (r .answer)) s (r .sched) (now (threads .entry)) (now (threads .exit)) (now (queue .entry)) (now (queue .exit)) ps ps (now (log .entry)) (now (log .exit)) (now (lanes .entry)) (now (lanes .exit))) ⌝ }
+    requires { ⌜ ((ps : List ℕ) × Valid s (memory (now threads) (now queue) ps (now log) (now lanes))) ⌝ }
+    ensures { λ r. ⌜ ((ps : List ℕ) → Valid s (memory (now (threads .entry)) (now (queue .entry)) ps (now (log .entry)) (now (lanes .entry)))
+        → Done (Calls.close (core .0)) (callAnswerMeant (r .answer)) s (r .sched)
+        (memory (now (threads .entry)) (now (queue .entry)) ps (now (log .entry)) (now (lanes .entry)))
+        (memory (now (threads .exit)) (now (queue .exit)) ps (now (log .exit)) (now (lanes .exit)))) ⌝ }
 {
     let on = close_core(s, core);
     let e = exit(s, on, threads, queue, log);

@@ -19,6 +19,7 @@ use Rattle.model.specs.declared.CoreId.{CoreId}
 use Rattle.model.specs.Reading.{callAnswerMeant}
 use Rattle.model.specs.Calls as Calls
 use Rattle.state.specs.declared.Sched.{Sched}
+use Rattle.state.specs.Memory.{memory}
 use Rattle.state.specs.State.{Valid}
 use Rattle.state.specs.Done.{Done}
 use Rattle.sched_marks.specs.declared.Answered.{Answered}
@@ -31,7 +32,7 @@ use Rattle.value_types.proofs.Types.{sched, coreId, answered}
 
 -- what `exit` says
 abbrev pub Exited : Sched → CoreId → Answered → (ts ts' : List ThreadInfo) (qs qs' ls ls' : List ℕ) → Type 0
-Exited st core r ts ts' qs qs' ls ls' = (ps ws : List ℕ) → Valid st ts qs ps ls ws → Done (Calls.exit (core .0)) (callAnswerMeant (r .answer)) st (r .sched) ts ts' qs qs' ps ps ls ls' ws ws
+Exited st core r ts ts' qs qs' ls ls' = (ps ws : List ℕ) → Valid st (memory ts qs ps ls ws) → Done (Calls.exit (core .0)) (callAnswerMeant (r .answer)) st (r .sched) (memory ts qs ps ls ws) (memory ts' qs' ps ls' ws)
 
 module _ {M : Type 1} (𝓤 : URA M) (H : Heap 𝓤) (A : Atoms 𝓤) (W : Given 𝓤 H A) (mem : Memory → SProp 𝓤) (run : Routine → Fun 𝓤) (𝓣 : Tables 𝓤 H) (met : Meets 𝓤 H A exit.signature (𝓣 .C exit-def.name) (exit.spec 𝓤 H A mem run)) where
   pub exit-at : {st : Sched} {st-value : Val} {core : CoreId} {core-value : Val} {ts-place : ℕ} {ts-slice : Slice T.the-row} {ts : Elements ts-slice} {qs-place : ℕ} {qs-slice : Slice u32} {qs : Elements qs-slice} {ls-place : ℕ} {ls-slice : Slice u64} {ls : Elements ls-slice}

@@ -15,6 +15,7 @@ ghost use mathlib.Core.List.{List};
 ghost use Prim.Native.Nat.{ℕ};
 ghost use Rattle.model.specs.Reading.{callAnswerMeant};
 ghost use Rattle.model.specs.Calls as Calls;
+ghost use Rattle.state.specs.Memory.{memory};
 ghost use Rattle.state.specs.State.{Valid};
 ghost use Rattle.state.specs.Done.{Done};
 ghost use Rattle.sched_exit.specs.Asked.{ExitAsked};
@@ -29,7 +30,10 @@ pub fn exit(
     log: &mut [u64],
 ) -> Answered
     requires { ⌜ ExitAsked s (now threads) (now queue) (now log) ⌝ }
-    ensures { λ r. ⌜ ((ps ws : List ℕ) → Valid s (now (threads .entry)) (now (queue .entry)) ps (now (log .entry)) ws → Done (Calls.exit (core .0)) (callAnswerMeant (r .answer)) s (r .sched) (now (threads .entry)) (now (threads .exit)) (now (queue .entry)) (now (queue .exit)) ps ps (now (log .entry)) (now (log .exit)) ws ws) ⌝ }
+    ensures { λ r. ⌜ ((ps ws : List ℕ) → Valid s (memory (now (threads .entry)) (now (queue .entry)) ps (now (log .entry)) ws)
+        → Done (Calls.exit (core .0)) (callAnswerMeant (r .answer)) s (r .sched)
+        (memory (now (threads .entry)) (now (queue .entry)) ps (now (log .entry)) ws)
+        (memory (now (threads .exit)) (now (queue .exit)) ps (now (log .exit)) ws)) ⌝ }
 {
     let i = exit_place(s, core);
     let change = exit_change(s, core);

@@ -11,6 +11,7 @@ use tick_plan::tick::moves_of;
 use tick_plan::tick::ticked;
 ghost use Rattle.model.specs.Reading.{optionTidMeant, switchAnswerMeant};
 ghost use Rattle.model.specs.Calls;
+ghost use Rattle.state.specs.Memory.{lent};
 ghost use Rattle.state.specs.State.{Valid};
 ghost use Rattle.state.specs.Done.{Done};
 
@@ -25,8 +26,11 @@ pub fn force_switch(
     log: &mut [u64],
     lanes: &mut [u64],
 ) -> Ticked
-    requires { ⌜ Valid s (now threads) (now queue) (now prios) (now log) (now lanes) ⌝ }
-    ensures { λ r. ⌜ Done (Calls.force (core .0) (optionTidMeant named)) (switchAnswerMeant (r .answer) (r .switches .entries) (r .switches .count)) s (r .sched) (now (threads .entry)) (now (threads .exit)) (now (queue .entry)) (now (queue .exit)) (now (prios .entry)) (now (prios .entry)) (now (log .entry)) (now (log .exit)) (now (lanes .entry)) (now (lanes .exit)) ⌝ }
+    requires { ⌜ Valid s (lent threads queue prios log lanes) ⌝ }
+    ensures { λ r. ⌜ Done (Calls.force (core .0) (optionTidMeant named))
+        (switchAnswerMeant (r .answer) (r .switches .entries) (r .switches .count)) s (r .sched)
+        (lent (threads .entry) (queue .entry) (prios .entry) (log .entry) (lanes .entry))
+        (lent (threads .exit) (queue .exit) (prios .entry) (log .exit) (lanes .exit)) ⌝ }
 {
     let d = force_decided(s, core, named, queue, prios, log, lanes);
     let moves = moves_of(d);

@@ -13,13 +13,15 @@ ghost use lib.ListN.{set};
 ghost use Rattle.model.specs.declared.ThreadInfo.{ThreadInfo};
 ghost use Rattle.model.specs.Reading.{callAnswerMeant};
 ghost use Rattle.model.specs.Calls as Calls;
+ghost use Rattle.state.specs.Memory.{memory};
 ghost use Rattle.state.specs.State.{Valid};
 ghost use Rattle.state.specs.Done.{Done};
 
 // "`retired` sets the core's progressed mark, also on an idle or switching core."
 pub fn retired(s: Sched, core: CoreId) -> Answered
     requires { ⌜ s .cores ≤ 8 ⌝ }
-    ensures { λ r. ⌜ ((ts : List ThreadInfo) (qs ps ls ws : List ℕ) → Valid s ts qs ps ls ws → Done (Calls.retired (core .0)) (callAnswerMeant (r .answer)) s (r .sched) ts ts qs qs ps ps ls ls ws ws) ⌝ }
+    ensures { λ r. ⌜ ((ts : List ThreadInfo) (qs ps ls ws : List ℕ) → Valid s (memory ts qs ps ls ws)
+        → Done (Calls.retired (core .0)) (callAnswerMeant (r .answer)) s (r .sched) (memory ts qs ps ls ws) (memory ts qs ps ls ws)) ⌝ }
 {
     let answer = check_retired(s, core);
     let mut next = s;
@@ -56,7 +58,8 @@ fn with_mark(marks: [bool; 8], i: usize) -> [bool; 8]
 
 // "`set_timing` turns quantum 0 into 1."
 pub fn set_timing(s: Sched, quantum: u32, switch_cost: u32) -> Answered
-    ensures { λ r. ⌜ ((ts : List ThreadInfo) (qs ps ls ws : List ℕ) → Valid s ts qs ps ls ws → Done (Calls.timing quantum «switch_cost») (callAnswerMeant (r .answer)) s (r .sched) ts ts qs qs ps ps ls ls ws ws) ⌝ }
+    ensures { λ r. ⌜ ((ts : List ThreadInfo) (qs ps ls ws : List ℕ) → Valid s (memory ts qs ps ls ws)
+        → Done (Calls.timing quantum «switch_cost») (callAnswerMeant (r .answer)) s (r .sched) (memory ts qs ps ls ws) (memory ts qs ps ls ws)) ⌝ }
 {
     let answer = check_timing(s, quantum, switch_cost);
     match answer {

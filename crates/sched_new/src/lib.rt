@@ -11,6 +11,7 @@ ghost use mathlib.Core.Path.{_≡_};
 ghost use Prim.Native.Nat.{_≤_};
 ghost use lib.ListN.{length};
 ghost use Rattle.walkkit.specs.Firsts.{firsts};
+ghost use Rattle.state.specs.Memory.{lent};
 ghost use Rattle.new_plan.specs.Made.{sameAt, NewDone};
 
 // The first n records become t.
@@ -37,7 +38,8 @@ pub fn new(
     log: &mut [u64],
     lanes: &[u64],
 ) -> Created
-    ensures { λ r. ⌜ NewDone config cores capacities «entry_pc» (now (threads .entry)) (now (threads .exit)) (now (queue .entry)) (now (prios .entry)) (now (prios .exit)) (now (log .entry)) (now (log .exit)) (now (lanes .entry)) (r .sched) (r .answer) ⌝ }
+    ensures { λ r. ⌜ NewDone config cores capacities «entry_pc» (lent (threads .entry) (queue .entry) (prios .entry) (log .entry) (lanes .entry))
+        (lent (threads .exit) (queue .entry) (prios .exit) (log .exit) (lanes .entry)) (r .sched) (r .answer) ⌝ }
 {
     let answer = check_new(
         config,

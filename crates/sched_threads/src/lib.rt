@@ -24,6 +24,7 @@ ghost use mathlib.Core.List.{List};
 ghost use Prim.Native.Nat.{ℕ};
 ghost use Rattle.model.specs.Reading.{optionTidMeant, callAnswerMeant, spawnAnswerMeant, joinAnswerMeant};
 ghost use Rattle.model.specs.Calls as Calls;
+ghost use Rattle.state.specs.Memory.{memory};
 ghost use Rattle.state.specs.State.{Valid};
 ghost use Rattle.state.specs.Done.{Done};
 
@@ -36,8 +37,11 @@ pub fn set_priority(
     prios: &mut [u32],
     log: &mut [u64],
 ) -> Answered
-    requires { ⌜ ((qs : List ℕ) × (ws : List ℕ) × Valid s (now threads) qs (now prios) (now log) ws) ⌝ }
-    ensures { λ r. ⌜ ((qs ws : List ℕ) → Valid s (now (threads .entry)) qs (now (prios .entry)) (now (log .entry)) ws → Done (Calls.priority (tid .0) number) (callAnswerMeant (r .answer)) s (r .sched) (now (threads .entry)) (now (threads .exit)) qs qs (now (prios .entry)) (now (prios .exit)) (now (log .entry)) (now (log .exit)) ws ws) ⌝ }
+    requires { ⌜ ((qs : List ℕ) × (ws : List ℕ) × Valid s (memory (now threads) qs (now prios) (now log) ws)) ⌝ }
+    ensures { λ r. ⌜ ((qs ws : List ℕ) → Valid s (memory (now (threads .entry)) qs (now (prios .entry)) (now (log .entry)) ws)
+        → Done (Calls.priority (tid .0) number) (callAnswerMeant (r .answer)) s (r .sched)
+        (memory (now (threads .entry)) qs (now (prios .entry)) (now (log .entry)) ws)
+        (memory (now (threads .exit)) qs (now (prios .exit)) (now (log .exit)) ws)) ⌝ }
 {
     let d = priority::priority_decided(s, tid, number, prios, log);
     update(threads, priority::place_of(d), priority::change_of(d));
@@ -54,8 +58,11 @@ pub fn spawn(
     prios: &mut [u32],
     log: &mut [u64],
 ) -> SpawnAnswered
-    requires { ⌜ ((ws : List ℕ) × Valid s (now threads) (now queue) (now prios) (now log) ws) ⌝ }
-    ensures { λ r. ⌜ ((ws : List ℕ) → Valid s (now (threads .entry)) (now (queue .entry)) (now (prios .entry)) (now (log .entry)) ws → Done (Calls.spawn (optionTidMeant parent) «entry_pc») (spawnAnswerMeant (r .answer)) s (r .sched) (now (threads .entry)) (now (threads .exit)) (now (queue .entry)) (now (queue .exit)) (now (prios .entry)) (now (prios .exit)) (now (log .entry)) (now (log .exit)) ws ws) ⌝ }
+    requires { ⌜ ((ws : List ℕ) × Valid s (memory (now threads) (now queue) (now prios) (now log) ws)) ⌝ }
+    ensures { λ r. ⌜ ((ws : List ℕ) → Valid s (memory (now (threads .entry)) (now (queue .entry)) (now (prios .entry)) (now (log .entry)) ws)
+        → Done (Calls.spawn (optionTidMeant parent) «entry_pc») (spawnAnswerMeant (r .answer)) s (r .sched)
+        (memory (now (threads .entry)) (now (queue .entry)) (now (prios .entry)) (now (log .entry)) ws)
+        (memory (now (threads .exit)) (now (queue .exit)) (now (prios .exit)) (now (log .exit)) ws)) ⌝ }
 {
     let d = spawn::spawn_decided(s, parent, entry_pc, queue, prios, log);
     update(threads, spawn::place_of(d), spawn::change_of(d));
@@ -64,8 +71,10 @@ pub fn spawn(
 
 // "`join` of oneself or of an unknown thread is invalid, of an exited one done, otherwise wait."
 pub fn join(s: Sched, core: CoreId, target: Tid, threads: &mut [ThreadInfo]) -> JoinAnswered
-    requires { ⌜ ((qs : List ℕ) × (ps : List ℕ) × (ls : List ℕ) × (ws : List ℕ) × Valid s (now threads) qs ps ls ws) ⌝ }
-    ensures { λ r. ⌜ ((qs ps ls ws : List ℕ) → Valid s (now (threads .entry)) qs ps ls ws → Done (Calls.join (core .0) (target .0)) (joinAnswerMeant (r .answer)) s (r .sched) (now (threads .entry)) (now (threads .exit)) qs qs ps ps ls ls ws ws) ⌝ }
+    requires { ⌜ ((qs : List ℕ) × (ps : List ℕ) × (ls : List ℕ) × (ws : List ℕ) × Valid s (memory (now threads) qs ps ls ws)) ⌝ }
+    ensures { λ r. ⌜ ((qs ps ls ws : List ℕ) → Valid s (memory (now (threads .entry)) qs ps ls ws)
+        → Done (Calls.join (core .0) (target .0)) (joinAnswerMeant (r .answer)) s (r .sched) (memory (now (threads .entry)) qs ps ls ws)
+        (memory (now (threads .exit)) qs ps ls ws)) ⌝ }
 {
     let t = record_at(threads, own::known_place(s, target));
     let d = join::join_decided(s, core, target, t);
@@ -75,8 +84,10 @@ pub fn join(s: Sched, core: CoreId, target: Tid, threads: &mut [ThreadInfo]) -> 
 
 // The core's thread yields when the tick ends.
 pub fn yield_now(s: Sched, core: CoreId, threads: &mut [ThreadInfo]) -> Answered
-    requires { ⌜ ((qs : List ℕ) × (ps : List ℕ) × (ls : List ℕ) × (ws : List ℕ) × Valid s (now threads) qs ps ls ws) ⌝ }
-    ensures { λ r. ⌜ ((qs ps ls ws : List ℕ) → Valid s (now (threads .entry)) qs ps ls ws → Done (Calls.yield (core .0)) (callAnswerMeant (r .answer)) s (r .sched) (now (threads .entry)) (now (threads .exit)) qs qs ps ps ls ls ws ws) ⌝ }
+    requires { ⌜ ((qs : List ℕ) × (ps : List ℕ) × (ls : List ℕ) × (ws : List ℕ) × Valid s (memory (now threads) qs ps ls ws)) ⌝ }
+    ensures { λ r. ⌜ ((qs ps ls ws : List ℕ) → Valid s (memory (now (threads .entry)) qs ps ls ws)
+        → Done (Calls.yield (core .0)) (callAnswerMeant (r .answer)) s (r .sched) (memory (now (threads .entry)) qs ps ls ws)
+        (memory (now (threads .exit)) qs ps ls ws)) ⌝ }
 {
     let t = record_at(threads, own::own_place(s, core));
     let d = yields::yield_decided(s, core, t);

@@ -12,6 +12,7 @@ use tick_plan::tick::tick_threads;
 use tick_plan::tick::ticked;
 ghost use Rattle.model.specs.Reading.{switchAnswerMeant};
 ghost use Rattle.model.specs.Calls;
+ghost use Rattle.state.specs.Memory.{lent};
 ghost use Rattle.state.specs.State.{Valid};
 ghost use Rattle.state.specs.Done.{Done};
 
@@ -24,8 +25,10 @@ pub fn end_tick(
     log: &mut [u64],
     lanes: &mut [u64],
 ) -> Ticked
-    requires { ⌜ Valid s (now threads) (now queue) (now prios) (now log) (now lanes) ⌝ }
-    ensures { λ r. ⌜ Done Calls.tick (switchAnswerMeant (r .answer) (r .switches .entries) (r .switches .count)) s (r .sched) (now (threads .entry)) (now (threads .exit)) (now (queue .entry)) (now (queue .exit)) (now (prios .entry)) (now (prios .entry)) (now (log .entry)) (now (log .exit)) (now (lanes .entry)) (now (lanes .exit)) ⌝ }
+    requires { ⌜ Valid s (lent threads queue prios log lanes) ⌝ }
+    ensures { λ r. ⌜ Done Calls.tick (switchAnswerMeant (r .answer) (r .switches .entries) (r .switches .count)) s (r .sched)
+        (lent (threads .entry) (queue .entry) (prios .entry) (log .entry) (lanes .entry))
+        (lent (threads .exit) (queue .exit) (prios .entry) (log .exit) (lanes .exit)) ⌝ }
 {
     let n = tick_threads(s);
     let cores = core_states(s);

@@ -45,7 +45,8 @@ pub fn feed_next(
 // What stands at the end of a script, put behind what was printed before.
 pub fn finish_at(p: Progress, out: &mut [u8], threads: &[ThreadInfo]) -> usize
     requires { ⌜ FinishAsked p (now out) (now threads) ⌝ }
-    ensures { λ n. ⌜ ((qs ps ls ws : List ℕ) → ReportValid (p .report) (now (threads .entry)) qs ps ls ws → Put (now (out .entry)) (p .at) (finish (reportMeant (p .report) (now (threads .entry)) qs ls ws)) (now (out .exit)) n) ⌝ }
+    ensures { λ n. ⌜ ((qs ps ls ws : List ℕ) → ReportValid (p .report) (now (threads .entry)) qs ps ls ws
+        → Put (now (out .entry)) (p .at) (finish (reportMeant (p .report) (now (threads .entry)) qs ls ws)) (now (out .exit)) n) ⌝ }
 {
     let n = record_count(report_of(p));
     let sums = totals(threads, n);

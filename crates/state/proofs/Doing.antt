@@ -9,14 +9,16 @@ use Rattle.model.specs.Types.{ThreadRecord, State}
 use Rattle.model.specs.Calls.{Call, Answer, refused, refusal, accept, stepped, step}
 use Rattle.model.proofs.Bounded.{Bounded, bounded-accept}
 use Rattle.state.specs.declared.Sched.{Sched}
-use Rattle.state.specs.State.{statesOf, meant, Sizes, Rings, Marks, Valid}
+use Rattle.state.specs.Memory.{memory}
+use Rattle.state.specs.Memory.{memory}
+use Rattle.state.specs.State.{statesOf, meantAt, Sizes, Rings, Marks, Valid}
 use Rattle.state.specs.Done.{Frame, Same, Done}
 
-module _ (c : Call) (s : Sched) (ts : List ThreadInfo) (qs ps ls ws : List ℕ) (v : Valid s ts qs ps ls ws) where
+module _ (c : Call) (s : Sched) (ts : List ThreadInfo) (qs ps ls ws : List ℕ) (v : Valid s (memory ts qs ps ls ws)) where
   abbrev M : State
-  M = meant s ts qs ls ws
+  M = meantAt s ts qs ls ws
 
-  pub done-refused : (n : ℕ) → refusal M c ≡ some n → Done c (refused n) s s ts ts qs qs ps ps ls ls ws ws
+  pub done-refused : (n : ℕ) → refusal M c ≡ some n → Done c (refused n) s s (memory ts qs ps ls ws) (memory ts qs ps ls ws)
   unfolding step stepped
   done-refused n e =
       record {
@@ -32,11 +34,11 @@ module _ (c : Call) (s : Sched) (ts : List ThreadInfo) (qs ps ls ws : List ℕ) 
   Unrefused a = (n : ℕ) → a ≡ refused n → ⊥
 
   pub done-taken :
-      (a : Answer) (s' : Sched) (ts' : List ThreadInfo) (qs' ps' ls' ws' : List ℕ) → refusal M c ≡ none → meant s' ts' qs' ls' ws' ≡ accept M c .state → a ≡ accept M c .answer → Unrefused a
-      → Sizes (s' .capacities) (s' .cores) (s' .threads) (s' .queued) ts' qs' ps' ls' ws' → Rings (s' .capacities) (s' .cores) (s' .log) (s' .lanes) ls' ws'
+      (a : Answer) (s' : Sched) (ts' : List ThreadInfo) (qs' ps' ls' ws' : List ℕ) → refusal M c ≡ none → meantAt s' ts' qs' ls' ws' ≡ accept M c .state → a ≡ accept M c .answer → Unrefused a
+      → Sizes (s' .capacities) (s' .cores) (s' .threads) (s' .queued) (memory ts' qs' ps' ls' ws') → Rings (s' .capacities) (s' .cores) (s' .log) (s' .lanes) ls' ws'
       → Marks (s' .cores) (statesOf (s' .states)) (s' .exits) (s' .blocks) (s' .yields) (s' .progressed) → length (s' .ticks) ≡ 8
-      → take (s' .threads) ps' ≡ map (λ (t : ThreadRecord). t .priority) (meant s' ts' qs' ls' ws' .accounts .threads) → Frame s s' ts ts' qs qs' ps ps' ls ls' ws ws'
-      → Done c a s s' ts ts' qs qs' ps ps' ls ls' ws ws'
+      → take (s' .threads) ps' ≡ map (λ (t : ThreadRecord). t .priority) (meantAt s' ts' qs' ls' ws' .accounts .threads) → Frame s s' (memory ts qs ps ls ws) (memory ts' qs' ps' ls' ws')
+      → Done c a s s' (memory ts qs ps ls ws) (memory ts' qs' ps' ls' ws')
   unfolding step stepped
   done-taken a s' ts' qs' ps' ls' ws' e st an un si ri ma ti pr fr =
       record {

@@ -1,2 +1,3 @@
-pub mod State
 pub mod Done
+pub mod Memory
+pub mod State

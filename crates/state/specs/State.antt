@@ -24,6 +24,7 @@ use Rattle.rings.specs.Ring.{RingOK}
 use Rattle.rings.specs.Events.{eventsIn}
 use Rattle.rings.specs.Timeline.{segmentsIn}
 use Rattle.model.specs.Calls.{idleCore}
+use Rattle.state.specs.Memory.{Memory}
 use Rattle.state.specs.declared.CoreWords.{CoreWords}
 use Rattle.state.specs.declared.Eight.{Eight}
 use Rattle.state.specs.declared.Capacities.{Capacities}
@@ -67,8 +68,8 @@ laneWords c i ws = take (2 * c) (drop (laneStart c i) ws)
 abbrev pub logWords : (capE : ℕ) → List ℕ → List ℕ
 logWords c ws = take (2 * c) ws
 
-unfoldable pub meant : Sched → List ThreadInfo → (queue log lanes : List ℕ) → State
-meant s ts qs ls ws =
+unfoldable pub meantAt : Sched → List ThreadInfo → (queue log lanes : List ℕ) → State
+meantAt s ts qs ls ws =
     record {
       config = record {
         policy = policyMeant (s .config .policy);
@@ -91,16 +92,20 @@ meant s ts qs ls ws =
       closed = s .closed;
     }
 
+-- the same of the lent memory as one value; the priorities only repeat what the records hold
+abbrev pub meant : Sched → Memory → State
+meant s m = meantAt s (m .threads) (m .queue) (m .log) (m .lanes)
+
 -- the memory holds what the capacities promise: c cores, n threads, q of them in the queue
-pub record Sizes (k : Capacities) (c n q : ℕ) (ts : List ThreadInfo) (qs ps ls ws : List ℕ) : Type 0 where
+pub record Sizes (k : Capacities) (c n q : ℕ) (m : Memory) : Type 0 where
   pub cores : c ≤ 8
   pub inUse : n ≤ k .threads
   pub waiting : q ≤ k .threads
-  pub threads : k .threads ≤ length ts
-  pub queue : k .threads ≤ length qs
-  pub prios : k .threads ≤ length ps
-  pub log : 2 * k .events ≤ length ls
-  pub lanes : laneStart (k .segments) c ≤ length ws
+  pub threads : k .threads ≤ length (m .threads)
+  pub queue : k .threads ≤ length (m .queue)
+  pub prios : k .threads ≤ length (m .prios)
+  pub log : 2 * k .events ≤ length (m .log)
+  pub lanes : laneStart (k .segments) c ≤ length (m .lanes)
 
 -- the rings' positions are within their memory
 pub record Rings (k : Capacities) (cores : ℕ) (log : RingPos) (lanes : List RingPos) (ls ws : List ℕ) : Type 0 where
@@ -117,10 +122,10 @@ pub record Marks (cores : ℕ) (states : List Program.CoreState) (ex bl yi pr : 
   pub unused : (i : ℕ) → cores ≤ i → coreFrom states ex bl yi pr i ≡ idleCore
 
 -- what `new` and every call leave, and all that a call asks
-pub record Valid (s : Sched) (ts : List ThreadInfo) (qs ps ls ws : List ℕ) : Type 0 where
-  pub sizes : Sizes (s .capacities) (s .cores) (s .threads) (s .queued) ts qs ps ls ws
-  pub rings : Rings (s .capacities) (s .cores) (s .log) (s .lanes) ls ws
+pub record Valid (s : Sched) (m : Memory) : Type 0 where
+  pub sizes : Sizes (s .capacities) (s .cores) (s .threads) (s .queued) m
+  pub rings : Rings (s .capacities) (s .cores) (s .log) (s .lanes) (m .log) (m .lanes)
   pub marks : Marks (s .cores) (statesOf (s .states)) (s .exits) (s .blocks) (s .yields) (s .progressed)
   pub ticks : length (s .ticks) ≡ 8
-  pub priorities : take (s .threads) ps ≡ map (λ (t : ThreadRecord). t .priority) (meant s ts qs ls ws .accounts .threads)
-  pub bounded : Bounded (meant s ts qs ls ws)
+  pub priorities : take (s .threads) (m .prios) ≡ map (λ (t : ThreadRecord). t .priority) (meant s m .accounts .threads)
+  pub bounded : Bounded (meant s m)

@@ -12,7 +12,7 @@ use Rattle.model.specs.Questions.{mean, Figures, figures}
 use Rattle.model.proofs.Figures.{mean-nearest}
 use Rattle.record_reads.specs.declared.totals.Totals.{Totals}
 use Rattle.state.specs.declared.Sched.{Sched}
-use Rattle.state.specs.State.{meant}
+use Rattle.state.specs.State.{meantAt}
 use Rattle.summary.specs.declared.SchedSummary.{SchedSummary}
 use Rattle.summary.specs.Reading.{figuresMeant, Summed}
 use Rattle.summary.specs.Cores.{busyIn, allIn}
@@ -35,7 +35,7 @@ near : (s n : ℕ) → s < 2 ^ 53 → n < 2 ^ 53 → Nearest s n (mean s n)
 near s n h g = record { nearest = λ p. mean-nearest s n h g p; nobody = λ e. sym (mean-nobody s n e) }
 
 module _ (s : Sched) (n : Totals) (ts : List ThreadInfo) (qs ps ls ws : List ℕ) (k : Summed s n ts qs ps ls ws) where
-  pub figures-nearest : AllNearest (sums (meant s ts qs ls ws .accounts)) (figures (sums (meant s ts qs ls ws .accounts)))
+  pub figures-nearest : AllNearest (sums (meantAt s ts qs ls ws .accounts)) (figures (sums (meantAt s ts qs ls ws .accounts)))
   unfolding figures
   figures-nearest =
       let z = totals-small s n ts qs ps ls ws k in
@@ -52,5 +52,5 @@ module _ (s : Sched) (n : Totals) (ts : List ThreadInfo) (qs ps ls ws : List ℕ
       })
 
   -- what `summary` promises of its result r makes it so
-  pub summary-nearest : (r : SchedSummary) → figuresMeant r ≡ figures (sums (meant s ts qs ls ws .accounts)) → AllNearest (sums (meant s ts qs ls ws .accounts)) (figuresMeant r)
-  summary-nearest r e = subst (AllNearest (sums (meant s ts qs ls ws .accounts))) (sym e) figures-nearest
+  pub summary-nearest : (r : SchedSummary) → figuresMeant r ≡ figures (sums (meantAt s ts qs ls ws .accounts)) → AllNearest (sums (meantAt s ts qs ls ws .accounts)) (figuresMeant r)
+  summary-nearest r e = subst (AllNearest (sums (meantAt s ts qs ls ws .accounts))) (sym e) figures-nearest

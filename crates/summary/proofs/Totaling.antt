@@ -19,7 +19,8 @@ use Rattle.record_reads.specs.Totals.{totalsOf, TotalsFit}
 use Rattle.record_reads.proofs.Summing.{totals-fit}
 use Rattle.threads.specs.Slice.{threadsIn}
 use Rattle.state.specs.declared.Sched.{Sched}
-use Rattle.state.specs.State.{firsts, noTicks, meant, Valid}
+use Rattle.state.specs.Memory.{memory}
+use Rattle.state.specs.State.{firsts, noTicks, meantAt, Valid}
 use Rattle.state.proofs.Firsts.{length-firsts, getD-firsts}
 use Rattle.summary.specs.Reading.{Summed}
 use Rattle.summary.specs.Cores.{allTicks, busyIn, allIn}
@@ -120,14 +121,14 @@ threads-small now d p ts hn hp ht a =
 
 module _ (s : Sched) (n : Totals) (ts : List ThreadInfo) (qs ps ls ws : List ℕ) (k : Summed s n ts qs ps ls ws) where
   tick-limit : s .now .0 ≤ 4_000_000_000
-  unfolding meant limitNow
+  unfolding meantAt limitNow
   tick-limit = k .valid .bounded .now
 
   pub tick-small : s .now .0 < 2 ^ 53
   tick-small = omega (arith, tick-limit)
 
   switches-limit : s .«context_switches» ≤ 136_000_000_000
-  unfolding meant limitSwitches
+  unfolding meantAt limitSwitches
   switches-limit = omega (arith, k .valid .bounded .contextSwitches, tick-limit)
 
   pub switches-small : s .«context_switches» < 2 ^ 53
@@ -135,7 +136,7 @@ module _ (s : Sched) (n : Totals) (ts : List ThreadInfo) (qs ps ls ws : List ℕ
 
   -- each core's counters make up the time
   pub core-small : (i : ℕ) → i < s .cores → allTicks (getD (s .ticks) i noTicks) ≤ 4_000_000_000
-  unfolding meant
+  unfolding meantAt
   core-small i h =
       let g : ℕ → CoreTicks = λ (j : ℕ). coreTicksMeant (getD (s .ticks) j noTicks) in
       let e : getD (firsts g (s .cores)) i (g i) ≡ g i = getD-firsts g (s .cores) i (g i) h in
@@ -147,15 +148,15 @@ module _ (s : Sched) (n : Totals) (ts : List ThreadInfo) (qs ps ls ws : List ℕ
   cores-few = k .valid .sizes .cores
 
   pub totals-small : Small n
-  unfolding meant threadsIn
+  unfolding meantAt threadsIn
   totals-small =
       let few : s .capacities .threads ≤ 256 = k .valid .bounded .settings .capT′ in
       let len : length (map threadMeant (take (s .threads) ts)) ≡ s .threads = length-map (take (s .threads) ts) threadMeant ∙ length-take-le (s .threads) ts (omega (arith, k .valid .sizes .inUse, k .valid .sizes .threads)) in
       subst Small (sym (k .totals)) (threads-small (s .now .0) _ _ (map threadMeant (take (s .threads) ts)) tick-limit switches-limit (omega (arith, len, few, k .valid .sizes .inUse)) (k .valid .bounded .threads))
 
   -- the definition's sums are those of the threads and those of the cores
-  pub sums-are : (b a : ℕ) → b ≡ busyIn (s .ticks) (s .cores) → a ≡ allIn (s .ticks) (s .cores) → sumsWith n (s .«context_switches») b a ≡ sums (meant s ts qs ls ws .accounts)
-  unfolding sums meant totalsOf threadsIn busyIn allIn
+  pub sums-are : (b a : ℕ) → b ≡ busyIn (s .ticks) (s .cores) → a ≡ allIn (s .ticks) (s .cores) → sumsWith n (s .«context_switches») b a ≡ sums (meantAt s ts qs ls ws .accounts)
+  unfolding sums meantAt totalsOf threadsIn busyIn allIn
   sums-are b a p q = ap (λ (m : Totals). sumsWith m (s .«context_switches») b a) (k .totals) ∙ ap₂ (λ (x y : ℕ). sumsWith (totalsOf (threadsIn ts (s .threads))) (s .«context_switches») x y) p q
 
   pub cores-small : (m : ℕ) → m ≤ s .cores → (busyIn (s .ticks) m ≤ allIn (s .ticks) m) × (allIn (s .ticks) m ≤ 4_000_000_000 * m)
@@ -169,6 +170,6 @@ unfolding totalsOf
 small-fit rs z = totals-fit rs (omega (arith, z .threads)) (omega (arith, z .preemptions)) (omega (arith, z .waiting)) (omega (arith, z .response)) (omega (arith, z .turnaround))
 
 -- what `threads::totals` asks, in a state as every call leaves it
-pub totals-room : (s : Sched) (ts : List ThreadInfo) (qs ps ls ws : List ℕ) → Valid s ts qs ps ls ws → (s .threads ≤ length ts) × TotalsFit (totalsOf (threadsIn ts (s .threads)))
+pub totals-room : (s : Sched) (ts : List ThreadInfo) (qs ps ls ws : List ℕ) → Valid s (memory ts qs ps ls ws) → (s .threads ≤ length ts) × TotalsFit (totalsOf (threadsIn ts (s .threads)))
 totals-room s ts qs ps ls ws v =
     (omega (arith, v .sizes .inUse, v .sizes .threads), small-fit (threadsIn ts (s .threads)) (totals-small s _ ts qs ps ls ws (record { valid = v; totals = refl })))

@@ -10,6 +10,7 @@ use Rattle.record_reads.specs.declared.totals.Totals.{Totals}
 use Rattle.record_reads.specs.Totals.{totalsOf}
 use Rattle.threads.specs.Slice.{threadsIn}
 use Rattle.state.specs.declared.Sched.{Sched}
+use Rattle.state.specs.Memory.{memory}
 use Rattle.state.specs.State.{Valid}
 use Rattle.summary.specs.declared.Sums as Program
 use Rattle.summary.specs.declared.SchedSummary.{SchedSummary}
@@ -45,5 +46,5 @@ figureBits f =
 
 -- a state as every call leaves it, and the sums over its thread records as `threads::totals` makes them
 pub record Summed (s : Sched) (n : Totals) (ts : List ThreadInfo) (qs ps ls ws : List ℕ) : Type 0 where
-  pub valid : Valid s ts qs ps ls ws
+  pub valid : Valid s (memory ts qs ps ls ws)
   pub totals : n ≡ totalsOf (threadsIn ts (s .threads))

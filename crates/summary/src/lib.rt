@@ -12,7 +12,7 @@ ghost use Rattle.model.specs.declared.ThreadInfo.{ThreadInfo};
 ghost use Rattle.model.specs.Accounting.{sums};
 ghost use Rattle.model.specs.Questions.{figures};
 ghost use Rattle.model.specs.Questions.{mean as Questions·mean};
-ghost use Rattle.state.specs.State.{meant, noTicks};
+ghost use Rattle.state.specs.State.{meantAt, noTicks};
 ghost use Rattle.summary.specs.Reading.{sumsMeant, figuresMeant, figureBits, Summed};
 ghost use Rattle.summary.specs.Cores.{allTicks, busyIn, allIn};
 ghost use Rattle.summary.specs.Fit.{Fit};
@@ -92,7 +92,7 @@ fn core_totals(ticks: [CoreTicks; 8], n: usize) -> CoreTotals
 // The exact sums, from the sums over the thread records and the cores' counters.
 pub fn sums_of(s: Sched, totals: Totals) -> Sums
     requires { ⌜ ((ts : List ThreadInfo) × (qs : List ℕ) × (ps : List ℕ) × (ls : List ℕ) × (ws : List ℕ) × Summed s totals ts qs ps ls ws) ⌝ }
-    ensures sums { λ r. ⌜ ((ts : List ThreadInfo) (qs ps ls ws : List ℕ) → Summed s totals ts qs ps ls ws → (sumsMeant r ≡ sums (meant s ts qs ls ws .accounts)) × (r .now .0 ≡ meant s ts qs ls ws .now)) ⌝ }
+    ensures sums { λ r. ⌜ ((ts : List ThreadInfo) (qs ps ls ws : List ℕ) → Summed s totals ts qs ps ls ws → (sumsMeant r ≡ sums (meantAt s ts qs ls ws .accounts)) × (r .now .0 ≡ meantAt s ts qs ls ws .now)) ⌝ }
     ensures fit { λ r. ⌜ Fit r ⌝ }
 {
     let counters = s.ticks;
@@ -127,7 +127,7 @@ fn mean(sum: u64, count: u64) -> f64
 // The four figures.
 pub fn summary(s: Sched, totals: Totals) -> SchedSummary
     requires { ⌜ ((ts : List ThreadInfo) × (qs : List ℕ) × (ps : List ℕ) × (ls : List ℕ) × (ws : List ℕ) × Summed s totals ts qs ps ls ws) ⌝ }
-    ensures { λ r. ⌜ ((ts : List ThreadInfo) (qs ps ls ws : List ℕ) → Summed s totals ts qs ps ls ws → figuresMeant r ≡ figures (sums (meant s ts qs ls ws .accounts))) ⌝ }
+    ensures { λ r. ⌜ ((ts : List ThreadInfo) (qs ps ls ws : List ℕ) → Summed s totals ts qs ps ls ws → figuresMeant r ≡ figures (sums (meantAt s ts qs ls ws .accounts))) ⌝ }
 {
     let n = sums_of(s, totals);
     SchedSummary {
@@ -150,7 +150,7 @@ fn mean_bits(sum: u64, count: u64) -> u64
 // The bit patterns of the four figures.
 pub fn bits_of(s: Sched, totals: Totals) -> FigureBits
     requires { ⌜ ((ts : List ThreadInfo) × (qs : List ℕ) × (ps : List ℕ) × (ls : List ℕ) × (ws : List ℕ) × Summed s totals ts qs ps ls ws) ⌝ }
-    ensures { λ r. ⌜ ((ts : List ThreadInfo) (qs ps ls ws : List ℕ) → Summed s totals ts qs ps ls ws → r ≡ figureBits (figures (sums (meant s ts qs ls ws .accounts)))) ⌝ }
+    ensures { λ r. ⌜ ((ts : List ThreadInfo) (qs ps ls ws : List ℕ) → Summed s totals ts qs ps ls ws → r ≡ figureBits (figures (sums (meantAt s ts qs ls ws .accounts)))) ⌝ }
 {
     let n = sums_of(s, totals);
     FigureBits {

@@ -22,7 +22,8 @@ use Rattle.records.specs.Changes.{changeMeant}
 use Rattle.threads.specs.Slice.{blank, threadsIn}
 use Rattle.threads.proofs.Slices.{thread-at, length-threads}
 use Rattle.state.specs.declared.Sched.{Sched}
-use Rattle.state.specs.State.{firsts, coreFrom, statesOf, meant, Marks, Valid}
+use Rattle.state.specs.Memory.{memory}
+use Rattle.state.specs.State.{firsts, coreFrom, statesOf, meantAt, Marks, Valid}
 use Rattle.state.specs.Done.{Done}
 use Rattle.state.proofs.Doing.{done-taken}
 use Rattle.checks.specs.Check.{coreRefusal}
@@ -35,17 +36,17 @@ use Rattle.thread_plan.specs.Reads.{ownTid, knownPlace}
 use Rattle.thread_plan.proofs.OneRecord.{in-use, rebuilt, Changed, changed-size, map-kept, beyond}
 use Rattle.thread_plan.proofs.Owning.{place-known, core-there, own-tid, own-known, blocked, block-marks}
 
-module _ (s : Sched) (ts : List ThreadInfo) (qs ps ls ws : List ℕ) (v : Valid s ts qs ps ls ws) where
+module _ (s : Sched) (ts : List ThreadInfo) (qs ps ls ws : List ℕ) (v : Valid s (memory ts qs ps ls ws)) where
   abbrev M : State
-  M = meant s ts qs ls ws
+  M = meantAt s ts qs ls ws
 
   ---- a mark of one core and one record changed
 
   pub marked-done :
       (c : Call) (a : Answer) (b y : List Bool) (u : ℕ) (g : ThreadRecord → ThreadRecord) → u < s .threads → ((t : ThreadRecord) → g t .priority ≡ t .priority) → refusal M c ≡ none
       → rebuilt M (firsts (coreFrom (statesOf (s .states)) (s .exits) b y (s .progressed)) (s .cores)) (M .queue) (update u g (M .accounts .threads)) (M .accounts .log) ≡ accept M c .state → a ≡ accept M c .answer → ((n : ℕ) → a ≡ refused n → ⊥)
-      → Marks (s .cores) (statesOf (s .states)) (s .exits) b y (s .progressed) → (ts' : List ThreadInfo) → Changed u g ts ts' → Done c a s (withMarks b y s) ts ts' qs qs ps ps ls ls ws ws
-  unfolding meant threadsIn
+      → Marks (s .cores) (statesOf (s .states)) (s .exits) b y (s .progressed) → (ts' : List ThreadInfo) → Changed u g ts ts' → Done c a s (withMarks b y s) (memory ts qs ps ls ws) (memory ts' qs ps ls ws)
+  unfolding meantAt threadsIn
   marked-done c a b y u g l keeps r st an un ma ts' f =
       let z = v .sizes in
       let records : map threadMeant (take (s .threads) ts') ≡ update u g (map threadMeant (take (s .threads) ts)) = f (s .threads) l .front in
@@ -67,7 +68,7 @@ module _ (s : Sched) (ts : List ThreadInfo) (qs ps ls ws : List ℕ) (v : Valid 
   ---- how a join turns out
 
   target-outcome : (c t : ℕ) → cond (leb (s .threads) t) Invalid (outcome c t (some (threadMeant (getD ts (knownPlace s t) blank) .state))) ≡ outcome c t (threadStateOf (getElem? (M .accounts .threads) t))
-  unfolding meant threadsIn threadStateOf outcome
+  unfolding meantAt threadsIn threadStateOf outcome
   target-outcome c t = go (leb (s .threads) t) refl
     where
       go : (b : Bool) → leb (s .threads) t ≡ b → cond b Invalid (outcome c t (some (threadMeant (getD ts (knownPlace s t) blank) .state))) ≡ outcome c t (threadStateOf (getElem? (map threadMeant (take (s .threads) ts)) t))
@@ -93,7 +94,7 @@ module _ (s : Sched) (ts : List ThreadInfo) (qs ps ls ws : List ℕ) (v : Valid 
     waits : (target : Tid) → Wait ≡ outcome (tidOn M i) (target .0) (threadStateOf (getElem? (M .accounts .threads) (target .0)))
         → rebuilt M (firsts (coreFrom (statesOf (s .states)) (s .exits) (set (s .blocks) i true) (s .yields) (s .progressed)) (s .cores)) (M .queue) (update (ownTid s i) (setState (Blocked (target .0))) (M .accounts .threads)) (M .accounts .log)
         ≡ accept M (join i (target .0)) .state
-    unfolding accept blocking meant
+    unfolding accept blocking meantAt
     waits target w =
         ap₂ (λ (cs : List Core) (k : ℕ). rebuilt M cs (M .queue) (update k (setState (Blocked (target .0))) (M .accounts .threads)) (M .accounts .log)) (blocked s ts qs ps ls ws v i (core-there s i true none h)) (sym (own-tid s ts qs ps ls ws v i h))
         ∙ ap (λ (o : JoinOutcome). blocking M i (target .0) o) w
@@ -119,7 +120,7 @@ module _ (s : Sched) (ts : List ThreadInfo) (qs ps ls ws : List ℕ) (v : Valid 
         record {
           there = some-record s ts qs ps ls ws v;
           fits = tt;
-          done = λ ts' f. subst (λ (l : List ThreadInfo). Done (join i t) a s s ts l qs qs ps ps ls ls ws ws) (sym (keep-same ts ts' f))
+          done = λ ts' f. subst (λ (l : List ThreadInfo). Done (join i t) a s s (memory ts qs ps ls ws) (memory l qs ps ls ws)) (sym (keep-same ts ts' f))
               (done-taken (join i t) s ts qs ps ls ws v a s ts qs ps ls ws (join-refusal s ts qs ls ws i t ∙ h) (sym st ∙ ap (λ (x : JoinOutcome). blocking M i t x) eo) (e ∙ ap joined eo) (unrefused o a e) (v .sizes) (v .rings) (v .marks) (v .ticks) (v .priorities)
               (record { threads = refl; queue = refl; prios = refl; log = refl; lanes = refl }));
         }

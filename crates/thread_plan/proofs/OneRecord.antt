@@ -14,16 +14,17 @@ use Rattle.model.proofs.PhaseLaws.{length-update}
 use Rattle.model.specs.Calls.{limitNow}
 use Rattle.rings.specs.Ring.{RingOK}
 use Rattle.state.specs.declared.Sched.{Sched}
-use Rattle.state.specs.State.{logWords, meant, Valid}
+use Rattle.state.specs.Memory.{memory}
+use Rattle.state.specs.State.{logWords, meantAt, Valid}
 use Rattle.threads.specs.Slice.{threadsIn, Front}
 
-pub in-use : (s : Sched) (ts : List ThreadInfo) (qs ps ls ws : List ℕ) → Valid s ts qs ps ls ws → s .threads ≤ length ts
+pub in-use : (s : Sched) (ts : List ThreadInfo) (qs ps ls ws : List ℕ) → Valid s (memory ts qs ps ls ws) → s .threads ≤ length ts
 in-use s ts qs ps ls ws v = omega (arith, v .sizes .inUse, v .sizes .threads)
 
 -- what the log asks of an event at `now`
-pub log-room : (s : Sched) (ts : List ThreadInfo) (qs ps ls ws : List ℕ) → Valid s ts qs ps ls ws
+pub log-room : (s : Sched) (ts : List ThreadInfo) (qs ps ls ws : List ℕ) → Valid s (memory ts qs ps ls ws)
     → (s .capacities .events ≤ 512) × (2 * s .capacities .events ≤ length ls) × RingOK (logWords (s .capacities .events) ls) (s .log) × (s .now .0 < 4_294_967_296)
-unfolding meant limitNow
+unfolding meantAt limitNow
 log-room s ts qs ps ls ws v = (v .bounded .settings .capE′, v .sizes .log, v .rings .events, omega (arith, v .bounded .now))
 
 -- the state m with these cores, queue, records and events
@@ -76,6 +77,6 @@ cond-true b x y e = rw e
 pub cond-false : {A : Type 0} (b : Bool) (x y : A) → b ≡ false → y ≡ cond b x y
 cond-false b x y e = rw e
 
-pub few-threads : (s : Sched) (ts : List ThreadInfo) (qs ps ls ws : List ℕ) → Valid s ts qs ps ls ws → s .capacities .threads ≤ 256
-unfolding meant
+pub few-threads : (s : Sched) (ts : List ThreadInfo) (qs ps ls ws : List ℕ) → Valid s (memory ts qs ps ls ws) → s .capacities .threads ≤ 256
+unfolding meantAt
 few-threads s ts qs ps ls ws v = v .bounded .settings .capT′

@@ -22,7 +22,8 @@ use Rattle.model.proofs.ThreadStates as States
 use Rattle.threads.specs.Slice.{threadsIn}
 use Rattle.threads.proofs.Slices.{length-threads}
 use Rattle.state.specs.declared.Sched.{Sched}
-use Rattle.state.specs.State.{firsts, coreFrom, statesOf, meant, Marks, Valid}
+use Rattle.state.specs.Memory.{memory}
+use Rattle.state.specs.State.{firsts, coreFrom, statesOf, meantAt, Marks, Valid}
 use Rattle.state.proofs.Firsts.{coreAt-firsts}
 use Rattle.checks.specs.Check.{coreRefusal}
 use Rattle.checks.proofs.Refusals.{join-refusal}
@@ -41,7 +42,7 @@ place-known s t h = go (leb (s .threads) t) refl
     go true e = absurd (omega (arith, leb-true (s .threads) t e))
     go false e = refl
 
-pub place-there : (s : Sched) (ts : List ThreadInfo) (qs ps ls ws : List ℕ) → Valid s ts qs ps ls ws → (t : ℕ) → knownPlace s t < length ts
+pub place-there : (s : Sched) (ts : List ThreadInfo) (qs ps ls ws : List ℕ) → Valid s (memory ts qs ps ls ws) → (t : ℕ) → knownPlace s t < length ts
 unfolding knownPlace
 place-there s ts qs ps ls ws v t = go (leb (s .threads) t) refl
   where
@@ -60,15 +61,15 @@ not-idle Idle e = absurd (let z : _≡_ {A = Bool} true false = e in not-both tr
 not-idle (Switching t l) e = refl
 not-idle (Running t s) e = refl
 
-module _ (s : Sched) (ts : List ThreadInfo) (qs ps ls ws : List ℕ) (v : Valid s ts qs ps ls ws) (i : ℕ) (h : coreRefusal s i true none ≡ none) where
+module _ (s : Sched) (ts : List ThreadInfo) (qs ps ls ws : List ℕ) (v : Valid s (memory ts qs ps ls ws)) (i : ℕ) (h : coreRefusal s i true none ≡ none) where
   abbrev M : State
-  M = meant s ts qs ls ws
+  M = meantAt s ts qs ls ws
 
   abbrev own : ℕ → Core
   own = coreFrom (statesOf (s .states)) (s .exits) (s .blocks) (s .yields) (s .progressed)
 
   pub own-tid : tidOn M i ≡ ownTid s i
-  unfolding tidOn coreStateOf ownTid coreFrom meant
+  unfolding tidOn coreStateOf ownTid coreFrom meantAt
   own-tid = ap (λ (c : Core). tidOf (holder (c .state))) (coreAt-firsts own (s .cores) i (core-there s i true none h))
 
   held : tidOn M i < length (M .accounts .threads)
@@ -82,12 +83,12 @@ module _ (s : Sched) (ts : List ThreadInfo) (qs ps ls ws : List ℕ) (v : Valid 
       (held-on (States.statesOf (M .accounts .threads)) i 0 i (M .cores) (omega arith) (v .bounded .placed .cores (check-none 11 _ _ r11)) (check-none 12 _ _ r12) (not-idle (coreAt (M .cores) i .state) (check-none 13 _ _ r13)))
 
   pub own-known : ownTid s i < s .threads
-  unfolding meant threadsIn
+  unfolding meantAt threadsIn
   own-known = let a = held in let b = own-tid in let c = length-threads ts (s .threads) (in-use s ts qs ps ls ws v) in omega (arith, a, b, c)
 
 ---- a mark written
 
-module _ (s : Sched) (ts : List ThreadInfo) (qs ps ls ws : List ℕ) (v : Valid s ts qs ps ls ws) (i : ℕ) (l : i < s .cores) where
+module _ (s : Sched) (ts : List ThreadInfo) (qs ps ls ws : List ℕ) (v : Valid s (memory ts qs ps ls ws)) (i : ℕ) (l : i < s .cores) where
   abbrev with-block : ℕ → Bool → Core
   with-block j b = record { state = coreStateMeant (getD (statesOf (s .states)) j CoreStateCases.Idle); exits = getD (s .exits) j false; blocks = b; yields = getD (s .yields) j false; progressed = getD (s .progressed) j false }
 

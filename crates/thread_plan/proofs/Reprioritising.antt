@@ -19,7 +19,8 @@ use Rattle.records.specs.declared.change.Change.the-variants as Changes
 use Rattle.records.specs.Changes.{changeMeant}
 use Rattle.threads.specs.Slice.{threadsIn}
 use Rattle.state.specs.declared.Sched.{Sched}
-use Rattle.state.specs.State.{meant, Valid}
+use Rattle.state.specs.Memory.{memory}
+use Rattle.state.specs.State.{meantAt, Valid}
 use Rattle.state.specs.Done.{Done}
 use Rattle.state.proofs.Doing.{done-taken}
 use Rattle.checks.specs.Check.{priorityRefusal}
@@ -34,9 +35,9 @@ pub priority-place : (s : Sched) (i : ℕ) → priorityRefusal s i ≡ none → 
 unfolding priorityRefusal
 priority-place s i h = leb-false (s .threads) i (check-none 5 _ _ h)
 
-module _ (s : Sched) (ts : List ThreadInfo) (qs ps ls ws : List ℕ) (v : Valid s ts qs ps ls ws) where
+module _ (s : Sched) (ts : List ThreadInfo) (qs ps ls ws : List ℕ) (v : Valid s (memory ts qs ps ls ws)) where
   abbrev M : State
-  M = meant s ts qs ls ws
+  M = meantAt s ts qs ls ws
 
   module _ (i n : ℕ) (p : RingPos) (ls' : List ℕ) (h : priorityRefusal s i ≡ none) (g : Logged (s .capacities .events) (record { tick = s .now .0; tid = i; kind = Reprioritised n }) ls ls' (s .log) p) (ts' : List ThreadInfo) (f : Changed i (setPriority n) ts ts') where
     l : i < s .threads
@@ -46,17 +47,17 @@ module _ (s : Sched) (ts : List ThreadInfo) (qs ps ls ws : List ℕ) (v : Valid 
     unfolding threadsIn
     records = f (s .threads) l .front
 
-    state : meant (withLog p s) ts' qs ls' ws ≡ accept M (priority i n) .state
-    unfolding accept meant logged
+    state : meantAt (withLog p s) ts' qs ls' ws ≡ accept M (priority i n) .state
+    unfolding accept meantAt logged
     state = ap₂ (λ (t : List ThreadRecord) (e : List Event). rebuilt M (M .cores) (M .queue) t e) records (g .events)
 
-    prios : take (s .threads) (set ps i n) ≡ map (λ (t : ThreadRecord). t .priority) (meant (withLog p s) ts' qs ls' ws .accounts .threads)
-    unfolding meant
+    prios : take (s .threads) (set ps i n) ≡ map (λ (t : ThreadRecord). t .priority) (meantAt (withLog p s) ts' qs ls' ws .accounts .threads)
+    unfolding meantAt
     prios =
         take-set-lt (s .threads) ps i n l ∙ ap (λ (w : List ℕ). set w i n) (v .priorities)
         ∙ sym (ap (map (λ (t : ThreadRecord). t .priority)) records ∙ map-update (λ (t : ThreadRecord). t .priority) (setPriority n) n i (map threadMeant (take (s .threads) ts)) (λ t. refl))
 
-    priority-done : (a : Answer) → a ≡ ok → Done (priority i n) a s (withLog p s) ts ts' qs qs ps (set ps i n) ls ls' ws ws
+    priority-done : (a : Answer) → a ≡ ok → Done (priority i n) a s (withLog p s) (memory ts qs ps ls ws) (memory ts' qs (set ps i n) ls' ws)
     unfolding accept
     priority-done a e =
         let z = v .sizes in

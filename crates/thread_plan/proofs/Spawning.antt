@@ -26,7 +26,8 @@ use Rattle.records.specs.Changes.{changeMeant}
 use Rattle.threads.specs.Slice.{blank, threadsIn}
 use Rattle.threads.proofs.Slices.{threads-back, length-threads}
 use Rattle.state.specs.declared.Sched.{Sched}
-use Rattle.state.specs.State.{meant, Valid}
+use Rattle.state.specs.Memory.{memory}
+use Rattle.state.specs.State.{meantAt, Valid}
 use Rattle.state.specs.Done.{Done}
 use Rattle.state.proofs.Doing.{done-taken}
 use Rattle.checks.specs.Check.{spawnRefusal}
@@ -68,9 +69,9 @@ update-back {A} (suc n) f (x ∷ xs) y e = ap (λ (l : List A). x ∷ l) (update
 pushed : (ws : List ℕ) (n w : ℕ) → n < length ws → take (n + 1) (set ws n w) ≡ take n ws ++ (w ∷ [])
 pushed ws n w h = rw (add-one, take-suc-set ws n w h)
 
-module _ (s : Sched) (ts : List ThreadInfo) (qs ps ls ws : List ℕ) (v : Valid s ts qs ps ls ws) (h : spawnRefusal s ≡ none) where
+module _ (s : Sched) (ts : List ThreadInfo) (qs ps ls ws : List ℕ) (v : Valid s (memory ts qs ps ls ws)) (h : spawnRefusal s ≡ none) where
   abbrev M : State
-  M = meant s ts qs ls ws
+  M = meantAt s ts qs ls ws
 
   pub spawn-room : s .threads < s .capacities .threads
   unfolding spawnRefusal
@@ -80,11 +81,11 @@ module _ (s : Sched) (ts : List ThreadInfo) (qs ps ls ws : List ℕ) (v : Valid 
   X = map threadMeant (take (s .threads) ts)
 
   long : length (M .accounts .threads) ≡ s .threads
-  unfolding meant threadsIn
+  unfolding meantAt threadsIn
   long = length-threads ts (s .threads) (in-use s ts qs ps ls ws v)
 
   waiting : length (M .queue) ≡ s .queued
-  unfolding meant
+  unfolding meantAt
   waiting = length-take-le (s .queued) qs (omega (arith, v .sizes .waiting, v .sizes .queue))
 
   pub queue-room : s .queued < s .capacities .threads
@@ -117,16 +118,16 @@ module _ (s : Sched) (ts : List ThreadInfo) (qs ps ls ws : List ℕ) (v : Valid 
     queue : take (s .queued + 1) (set qs (s .queued) (s .threads)) ≡ take (s .queued) qs ++ (s .threads ∷ [])
     queue = pushed qs (s .queued) (s .threads) (omega (arith, queue-room, v .sizes .queue))
 
-    written : meant s' ts' (set qs (s .queued) (s .threads)) ls' ws ≡ after (s .threads) prio
-    unfolding meant
+    written : meantAt s' ts' (set qs (s .queued) (s .threads)) ls' ws ≡ after (s .threads) prio
+    unfolding meantAt
     written = λ k. rebuilt M (M .cores) (queue k) (records k) (g .events k)
 
-    state : meant s' ts' (set qs (s .queued) (s .threads)) ls' ws ≡ accept M (spawn (optionTidMeant parent) entry) .state
-    unfolding accept logged meant
+    state : meantAt s' ts' (set qs (s .queued) (s .threads)) ls' ws ≡ accept M (spawn (optionTidMeant parent) entry) .state
+    unfolding accept logged meantAt
     state = written ∙ ap₂ after (sym long) prio-is
 
-    prios : take (s .threads + 1) (set ps (s .threads) prio) ≡ map (λ (t : ThreadRecord). t .priority) (meant s' ts' (set qs (s .queued) (s .threads)) ls' ws .accounts .threads)
-    unfolding meant born
+    prios : take (s .threads + 1) (set ps (s .threads) prio) ≡ map (λ (t : ThreadRecord). t .priority) (meantAt s' ts' (set qs (s .queued) (s .threads)) ls' ws .accounts .threads)
+    unfolding meantAt born
     prios =
         pushed ps (s .threads) prio (omega (arith, spawn-room, v .sizes .prios)) ∙ ap (λ (l : List ℕ). l ++ (prio ∷ [])) (v .priorities)
         ∙ sym (ap (map (λ (t : ThreadRecord). t .priority)) records ∙ map-append (λ (t : ThreadRecord). t .priority) (map threadMeant (take (s .threads) ts)) (child (s .threads) prio ∷ []))
@@ -134,7 +135,7 @@ module _ (s : Sched) (ts : List ThreadInfo) (qs ps ls ws : List ℕ) (v : Valid 
     unrefused : (a : Answer) → a ≡ spawned (s .threads) → (n : ℕ) → a ≡ refused n → ⊥
     unrefused a e n k = let z : _≡_ {A = ℕ} 0 1 = cc in omega arith
 
-    spawn-done : (a : Answer) → a ≡ spawned (s .threads) → Done (spawn (optionTidMeant parent) entry) a s s' ts ts' qs (set qs (s .queued) (s .threads)) ps (set ps (s .threads) prio) ls ls' ws ws
+    spawn-done : (a : Answer) → a ≡ spawned (s .threads) → Done (spawn (optionTidMeant parent) entry) a s s' (memory ts qs ps ls ws) (memory ts' (set qs (s .queued) (s .threads)) (set ps (s .threads) prio) ls' ws)
     unfolding accept
     spawn-done a e =
         let z = v .sizes in

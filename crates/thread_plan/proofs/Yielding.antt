@@ -24,7 +24,8 @@ use Rattle.records.specs.Changes.{changeMeant}
 use Rattle.threads.specs.Slice.{blank, threadsIn}
 use Rattle.threads.proofs.Slices.{thread-at}
 use Rattle.state.specs.declared.Sched.{Sched}
-use Rattle.state.specs.State.{firsts, coreFrom, statesOf, meant, Valid}
+use Rattle.state.specs.Memory.{memory}
+use Rattle.state.specs.State.{firsts, coreFrom, statesOf, meantAt, Valid}
 use Rattle.checks.specs.Check.{checkMeant, coreRefusal}
 use Rattle.checks.proofs.Refusals.{join-refusal}
 use Rattle.checks.proofs.Answers.{taken-none, ok-unrefused}
@@ -70,9 +71,9 @@ rest-none (some n) r e = absurd (let z : _≡_ {A = ℕ} 0 1 = cc in omega arith
 core-taken : (s : Sched) (i : ℕ) (r : Option ℕ) → coreRefusal s i true r ≡ none → coreRefusal s i true none ≡ none
 core-taken s i r e = first-none (coreRefusal s i true none) r (sym (core-rest s i true r) ∙ e)
 
-module _ (s : Sched) (ts : List ThreadInfo) (qs ps ls ws : List ℕ) (v : Valid s ts qs ps ls ws) (i : ℕ) (t : ThreadInfo) (et : t ≡ getD ts (knownPlace s (ownTid s i)) blank) where
+module _ (s : Sched) (ts : List ThreadInfo) (qs ps ls ws : List ℕ) (v : Valid s (memory ts qs ps ls ws)) (i : ℕ) (t : ThreadInfo) (et : t ≡ getD ts (knownPlace s (ownTid s i)) blank) where
   abbrev M : State
-  M = meant s ts qs ls ws
+  M = meantAt s ts qs ls ws
 
   abbrev y : ℕ
   y = threadMeant t .counts .yields
@@ -84,7 +85,7 @@ module _ (s : Sched) (ts : List ThreadInfo) (qs ps ls ws : List ℕ) (v : Valid 
   own-record h = et ∙ ap (λ (p : ℕ). getD ts p blank) (place-known s (ownTid s i) (own-known s ts qs ps ls ws v i h))
 
   own-yields : coreRefusal s i true none ≡ none → yieldsOf (getElem? (M .accounts .threads) (tidOn M i)) ≡ y
-  unfolding yieldsOf meant threadsIn
+  unfolding yieldsOf meantAt threadsIn
   own-yields h =
       let k = own-known s ts qs ps ls ws v i h in
       ap (λ (u : ℕ). yieldsOf (getElem? (map threadMeant (take (s .threads) ts)) u)) (own-tid s ts qs ps ls ws v i h)
@@ -109,7 +110,7 @@ module _ (s : Sched) (ts : List ThreadInfo) (qs ps ls ws : List ℕ) (v : Valid 
 
     yields : rebuilt M (firsts (coreFrom (statesOf (s .states)) (s .exits) (s .blocks) (set (s .yields) i true) (s .progressed)) (s .cores)) (M .queue) (update (ownTid s i) (addCounts 0 0 0 0 0 1) (M .accounts .threads)) (M .accounts .log)
         ≡ accept M (yield i) .state
-    unfolding accept meant
+    unfolding accept meantAt
     yields =
         ap₂ (λ (cs : List Core) (k : ℕ). rebuilt M cs (M .queue) (update k (addCounts 0 0 0 0 0 1) (M .accounts .threads)) (M .accounts .log)) (yielded s ts qs ps ls ws v i (core-there s i true none h4)) (sym (own-tid s ts qs ps ls ws v i h4))
 

@@ -22,6 +22,7 @@ ghost use Rattle.model.specs.Calls as Calls;
 ghost use Rattle.model.specs.declared.ThreadInfo as Infos;
 ghost use Rattle.records.specs.declared.change.Change.the-variants as Changes;
 ghost use Rattle.threads.specs.Slice.{blank};
+ghost use Rattle.state.specs.Memory.{memory};
 ghost use Rattle.state.specs.State.{Valid};
 ghost use Rattle.updates.specs.Pending.{Pending};
 ghost use Rattle.thread_plan.specs.Reads.{knownPlace};
@@ -58,7 +59,9 @@ fn unchanged(s: Sched, answer: JoinAnswer) -> JoinDecided
 
 pub fn join_decided(s: Sched, core: CoreId, target: Tid, t: ThreadInfo) -> JoinDecided
     requires { ⌜ s .cores ≤ 8 ⌝ }
-    ensures { λ r. ⌜ ((ts : List Infos.ThreadInfo) (qs ps ls ws : List ℕ) → Valid s ts qs ps ls ws → t ≡ getD ts (knownPlace s (target .0)) blank → Pending (Calls.join (core .0) (target .0)) (joinAnswerMeant (r .answer)) s (r .sched) (r .place) (r .change) ts qs qs ps ps ls ls ws ws) ⌝ }
+    ensures { λ r. ⌜ ((ts : List Infos.ThreadInfo) (qs ps ls ws : List ℕ) → Valid s (memory ts qs ps ls ws)
+        → t ≡ getD ts (knownPlace s (target .0)) blank
+        → Pending (Calls.join (core .0) (target .0)) (joinAnswerMeant (r .answer)) s (r .sched) (r .place) (r .change) ts qs qs ps ps ls ls ws ws) ⌝ }
 {
     let answer = check_core(s, core, true);
     match answer {

@@ -12,6 +12,7 @@ ghost use Prim.Native.Nat.{ℕ};
 ghost use Rattle.model.specs.declared.ThreadInfo.{ThreadInfo};
 ghost use Rattle.model.specs.Reading.{callAnswerMeant};
 ghost use Rattle.model.specs.Calls as Calls;
+ghost use Rattle.state.specs.Memory.{memory};
 ghost use Rattle.state.specs.State.{Valid};
 ghost use Rattle.updates.specs.Pending.{Pending};
 
@@ -31,8 +32,9 @@ pub fn priority_decided(
     prios: &mut [u32],
     log: &mut [u64],
 ) -> Decided
-    requires { ⌜ ((ts : List ThreadInfo) × (qs : List ℕ) × (ws : List ℕ) × Valid s ts qs (now prios) (now log) ws) ⌝ }
-    ensures { λ r. ⌜ ((ts : List ThreadInfo) (qs ws : List ℕ) → Valid s ts qs (now (prios .entry)) (now (log .entry)) ws → Pending (Calls.priority (tid .0) priority) (callAnswerMeant (r .answer)) s (r .sched) (r .place) (r .change) ts qs qs (now (prios .entry)) (now (prios .exit)) (now (log .entry)) (now (log .exit)) ws ws) ⌝ }
+    requires { ⌜ ((ts : List ThreadInfo) × (qs : List ℕ) × (ws : List ℕ) × Valid s (memory ts qs (now prios) (now log) ws)) ⌝ }
+    ensures { λ r. ⌜ ((ts : List ThreadInfo) (qs ws : List ℕ) → Valid s (memory ts qs (now (prios .entry)) (now (log .entry)) ws)
+        → Pending (Calls.priority (tid .0) priority) (callAnswerMeant (r .answer)) s (r .sched) (r .place) (r .change) ts qs qs (now (prios .entry)) (now (prios .exit)) (now (log .entry)) (now (log .exit)) ws ws) ⌝ }
 {
     let answer = check_priority(s, tid);
     match answer {

@@ -15,6 +15,7 @@ ghost use lib.ListN.{length, take};
 ghost use Rattle.model.specs.declared.ThreadInfo.{ThreadInfo};
 ghost use Rattle.model.specs.Reading.{optionTidMeant, spawnAnswerMeant};
 ghost use Rattle.model.specs.Calls as Calls;
+ghost use Rattle.state.specs.Memory.{memory};
 ghost use Rattle.state.specs.State.{Valid};
 ghost use Rattle.updates.specs.Pending.{Pending};
 ghost use Rattle.thread_plan.specs.Reads.{childPriority};
@@ -52,8 +53,9 @@ pub fn spawn_decided(
     prios: &mut [u32],
     log: &mut [u64],
 ) -> SpawnDecided
-    requires { ⌜ ((ts : List ThreadInfo) × (ws : List ℕ) × Valid s ts (now queue) (now prios) (now log) ws) ⌝ }
-    ensures { λ r. ⌜ ((ts : List ThreadInfo) (ws : List ℕ) → Valid s ts (now (queue .entry)) (now (prios .entry)) (now (log .entry)) ws → Pending (Calls.spawn (optionTidMeant parent) «entry_pc») (spawnAnswerMeant (r .answer)) s (r .sched) (r .place) (r .change) ts (now (queue .entry)) (now (queue .exit)) (now (prios .entry)) (now (prios .exit)) (now (log .entry)) (now (log .exit)) ws ws) ⌝ }
+    requires { ⌜ ((ts : List ThreadInfo) × (ws : List ℕ) × Valid s (memory ts (now queue) (now prios) (now log) ws)) ⌝ }
+    ensures { λ r. ⌜ ((ts : List ThreadInfo) (ws : List ℕ) → Valid s (memory ts (now (queue .entry)) (now (prios .entry)) (now (log .entry)) ws)
+        → Pending (Calls.spawn (optionTidMeant parent) «entry_pc») (spawnAnswerMeant (r .answer)) s (r .sched) (r .place) (r .change) ts (now (queue .entry)) (now (queue .exit)) (now (prios .entry)) (now (prios .exit)) (now (log .entry)) (now (log .exit)) ws ws) ⌝ }
 {
     let answer = check_spawn(s);
     match answer {

@@ -21,6 +21,7 @@ ghost use Rattle.model.specs.Reading.{callAnswerMeant};
 ghost use Rattle.model.specs.Calls as Calls;
 ghost use Rattle.model.specs.declared.ThreadInfo as Infos;
 ghost use Rattle.threads.specs.Slice.{blank};
+ghost use Rattle.state.specs.Memory.{memory};
 ghost use Rattle.state.specs.State.{Valid};
 ghost use Rattle.checks.specs.Check.{checkMeant, coreRefusal};
 ghost use Rattle.updates.specs.Pending.{Pending};
@@ -45,7 +46,9 @@ fn check_yield(s: Sched, core: CoreId, yields: u64) -> CallAnswer
 
 pub fn yield_decided(s: Sched, core: CoreId, t: ThreadInfo) -> Decided
     requires { ⌜ s .cores ≤ 8 ⌝ }
-    ensures { λ r. ⌜ ((ts : List Infos.ThreadInfo) (qs ps ls ws : List ℕ) → Valid s ts qs ps ls ws → t ≡ getD ts (knownPlace s (ownTid s (core .0))) blank → Pending (Calls.yield (core .0)) (callAnswerMeant (r .answer)) s (r .sched) (r .place) (r .change) ts qs qs ps ps ls ls ws ws) ⌝ }
+    ensures { λ r. ⌜ ((ts : List Infos.ThreadInfo) (qs ps ls ws : List ℕ) → Valid s (memory ts qs ps ls ws)
+        → t ≡ getD ts (knownPlace s (ownTid s (core .0))) blank
+        → Pending (Calls.yield (core .0)) (callAnswerMeant (r .answer)) s (r .sched) (r .place) (r .change) ts qs qs ps ps ls ls ws ws) ⌝ }
 {
     let answer = check_yield(s, core, yields_of(t));
     match answer {

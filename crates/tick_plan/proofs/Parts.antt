@@ -27,6 +27,7 @@ use Rattle.rings.specs.declared.RingPos.{RingPos}
 use Rattle.rings.specs.Ring.{capacity, RingOK}
 use Rattle.rings.specs.Events.{eventsIn}
 use Rattle.state.specs.declared.Sched.{Sched}
+use Rattle.state.specs.Memory.{memory}
 use Rattle.state.specs.State.{firsts, coreFrom, statesOf, logWords, Valid}
 use Rattle.accounts.specs.Charging.{TicksCharged, LanesCharged}
 use Rattle.accounts.specs.Log.{movedLog}
@@ -110,7 +111,7 @@ module _ (s : Sched) (qs qs' ps ws b : List ℕ) (cs cs' : List Program.CoreStat
       }
 
 -- all parts of a tick end that is taken
-pub pending-at : (s : Sched) (ts : List ThreadInfo) (qs ps ls ws : List ℕ) → Valid s ts qs ps ls ws → tickRefusal s ≡ none → (t : Tick) (c : Charged) (p : Planned) (w : Written) (s' : Sched) (qs' ls' ws₁ ws' : List ℕ) → s' ≡ tickedSched s t c p w → t .0 ≡ s .now .0 + 1
+pub pending-at : (s : Sched) (ts : List ThreadInfo) (qs ps ls ws : List ℕ) → Valid s (memory ts qs ps ls ws) → tickRefusal s ≡ none → (t : Tick) (c : Charged) (p : Planned) (w : Written) (s' : Sched) (qs' ls' ws₁ ws' : List ℕ) → s' ≡ tickedSched s t c p w → t .0 ≡ s .now .0 + 1
     → ChargedOf s ws ws₁ c → PlannedOf s qs qs' ps ws₁ ws' p → WrittenOf s (t .0) (movesIn ws' (p .moves)) ls ls' w → (a : CallAnswer) → a ≡ CallCases.Taken
     → TickPending (switchAnswerMeant a (w .switches .entries) (w .switches .count)) s s' (p .moves) ts qs qs' ps ls ls' ws ws'
 pending-at s ts qs ps ls ws v h t c p w s' qs' ls' ws₁ ws' e et C P R a ea =

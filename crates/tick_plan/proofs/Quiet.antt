@@ -21,6 +21,7 @@ use Rattle.queue.proofs.Frames.{no-longer-same}
 use Rattle.phases.specs.Cores.{passOf}
 use Rattle.rings.specs.Ring.{RingOK}
 use Rattle.state.specs.declared.Sched.{Sched}
+use Rattle.state.specs.Memory.{memory}
 use Rattle.state.specs.State.{firsts, coreFrom, statesOf, logWords, Valid}
 use Rattle.state.proofs.Firsts.{firsts-same}
 use Rattle.quiet.specs.Quiet.{isQuiet, slicedBelow, stateAt, Roomy}
@@ -93,13 +94,13 @@ nothing-written s ws w el et es now ls ok =
 
 ---- the tick end
 
-pub quiet-roomy : (s : Sched) (ts : List ThreadInfo) (qs ps ls ws : List ℕ) → Valid s ts qs ps ls ws → tickRefusal s ≡ none → Roomy s
+pub quiet-roomy : (s : Sched) (ts : List ThreadInfo) (qs ps ls ws : List ℕ) → Valid s (memory ts qs ps ls ws) → tickRefusal s ≡ none → Roomy s
 quiet-roomy s ts qs ps ls ws v h = plan-fits s ts qs ps ls ws v h ws refl .short
 
 pub quiet-pending :
     (s : Sched) (t : Tick) (c : Charged) (p : Planned) (w : Written) (s' : Sched) → s' ≡ tickedSched s t c p w → t .0 ≡ s .now .0 + 1 → p .moves ≡ 0
     → ((qs ps ws : List ℕ) → PlannedOf s qs qs ps ws ws p) → ((now : ℕ) (ls : List ℕ) → RingOK (logWords (s .capacities .events) ls) (s .log) → WrittenOf s now [] ls ls w)
-    → (a : CallAnswer) (ts : List ThreadInfo) (qs ps ls ws ws' : List ℕ) → Valid s ts qs ps ls ws → tickRefusal s ≡ none → ChargedOf s ws ws' c → a ≡ CallCases.Taken
+    → (a : CallAnswer) (ts : List ThreadInfo) (qs ps ls ws ws' : List ℕ) → Valid s (memory ts qs ps ls ws) → tickRefusal s ≡ none → ChargedOf s ws ws' c → a ≡ CallCases.Taken
     → TickPending (switchAnswerMeant a (w .switches .entries) (w .switches .count)) s s' (p .moves) ts qs qs ps ls ls ws ws'
 quiet-pending s t c p w s' es et mo P R a ts qs ps ls ws ws' v h C e =
     let none-left : [] ≡ movesIn ws' (p .moves) = rw mo (sym (no-moves ws')) in

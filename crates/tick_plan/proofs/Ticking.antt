@@ -33,7 +33,8 @@ use Rattle.record_moves.proofs.Moving.{moved-threads}
 use Rattle.threads.specs.Slice.{blank, threadsIn, Front, AllChargeable, tidAt, MovesFit}
 use Rattle.threads.proofs.Slices.{thread-at, length-threads}
 use Rattle.state.specs.declared.Sched.{Sched}
-use Rattle.state.specs.State.{firsts, coreFrom, statesOf, noTicks, noPos, laneStart, laneWords, logWords, meant, Sizes, Rings, Marks, Valid}
+use Rattle.state.specs.Memory.{memory}
+use Rattle.state.specs.State.{firsts, coreFrom, statesOf, noTicks, noPos, laneStart, laneWords, logWords, meantAt, Sizes, Rings, Marks, Valid}
 use Rattle.state.specs.Done.{Frame, Done}
 use Rattle.state.proofs.Doing.{done-refused, done-taken}
 use Rattle.accounts.proofs.Figures.{firsts-all, firsts-same, ticks-room, meant-ticks, meant-timelines, log-capacity, applied-log, applied-timelines}
@@ -57,12 +58,12 @@ pub threads-refused : (s : Sched) (n : ℕ) → tickRefusal s ≡ some n → tic
 unfolding tickThreads
 threads-refused s n e = rw e
 
-module _ (s : Sched) (ts : List ThreadInfo) (qs ps ls ws : List ℕ) (v : Valid s ts qs ps ls ws) where
+module _ (s : Sched) (ts : List ThreadInfo) (qs ps ls ws : List ℕ) (v : Valid s (memory ts qs ps ls ws)) where
   abbrev M : State
-  M = meant s ts qs ls ws
+  M = meantAt s ts qs ls ws
 
   pub next-fits : s .now .0 + 1 < 2 ^ 64
-  unfolding meant limitNow
+  unfolding meantAt limitNow
   next-fits = omega (arith, v .bounded .now)
 
   records-long : s .threads ≤ length ts
@@ -70,7 +71,7 @@ module _ (s : Sched) (ts : List ThreadInfo) (qs ps ls ws : List ℕ) (v : Valid 
 
   -- the rules, with the priorities of the lent words
   pub rules-same : rules M ≡ rulesOf (s .config .policy) (s .config .quantum) (s .config .«switch_cost») (take (s .threads) ps)
-  unfolding rules meant
+  unfolding rules meantAt
   rules-same =
       λ i. record {
         policy = rules M .policy;
@@ -81,7 +82,7 @@ module _ (s : Sched) (ts : List ThreadInfo) (qs ps ls ws : List ℕ) (v : Valid 
 
   -- what charging the records asks
   pub charge-all-fits : (tickThreads s ≤ length ts) × AllChargeable (tickThreads s) ts
-  unfolding tickThreads meant limitNow threadsIn
+  unfolding tickThreads meantAt limitNow threadsIn
   charge-all-fits = go (tickRefusal s)
     where
       each : AllChargeable (s .threads) ts
@@ -108,8 +109,8 @@ module _ (s : Sched) (ts : List ThreadInfo) (qs ps ls ws : List ℕ) (v : Valid 
         fits = λ ts₁ f. record { within = omega arith; known = λ k l. absurd (omega arith); room = λ k l. absurd (omega arith) };
         done = λ ts₁ ts' f g.
             let same : ts' ≡ ts = g 0 (λ k l. absurd (omega arith)) .rest ∙ uncharged ts₁ f in
-            subst (λ (l : List ThreadInfo). Done tick (switchAnswerMeant a entries count) s s ts l qs qs ps ps ls ls ws ws) (sym same)
-            (subst (λ (b : Answer). Done tick b s s ts ts qs qs ps ps ls ls ws ws) (sym (ap (λ (b : CallAnswer). switchAnswerMeant b entries count) e)) (done-refused tick s ts qs ps ls ws v (refusalNumber x) (tick-refusal s ts qs ls ws ∙ number)));
+            subst (λ (l : List ThreadInfo). Done tick (switchAnswerMeant a entries count) s s (memory ts qs ps ls ws) (memory l qs ps ls ws)) (sym same)
+            (subst (λ (b : Answer). Done tick b s s (memory ts qs ps ls ws) (memory ts qs ps ls ws)) (sym (ap (λ (b : CallAnswer). switchAnswerMeant b entries count) e)) (done-refused tick s ts qs ps ls ws v (refusalNumber x) (tick-refusal s ts qs ls ws ∙ number)));
       }
     where
       number : tickRefusal s ≡ some (refusalNumber x)
@@ -131,7 +132,7 @@ module _ (s : Sched) (ts : List ThreadInfo) (qs ps ls ws : List ℕ) (v : Valid 
 
     -- what the parts ask
     pub charge-fits : ChargeFits s ws
-    unfolding meant limitNow
+    unfolding meantAt limitNow
     charge-fits =
         record {
           cores = v .sizes .cores;
@@ -145,7 +146,7 @@ module _ (s : Sched) (ts : List ThreadInfo) (qs ps ls ws : List ℕ) (v : Valid 
         }
 
     pub plan-fits : (ws₁ : List ℕ) → length ws₁ ≡ length ws → PlanFits s qs ps ws₁
-    unfolding meant limitNow coreFrom
+    unfolding meantAt limitNow coreFrom
     plan-fits ws₁ e =
         record {
           cores = v .sizes .cores;
@@ -163,7 +164,7 @@ module _ (s : Sched) (ts : List ThreadInfo) (qs ps ls ws : List ℕ) (v : Valid 
         record { words = v .sizes .log; ring = v .rings .events; within = omega (arith, v .sizes .lanes); early = omega (arith, early) }
 
     pub switches-fit : (ws₂ : List ℕ) (count now : ℕ) (ls' : List ℕ) (w : Written) → count ≤ 80 → WriteFits s ls ws₂ count now → WrittenOf s now (movesIn ws₂ count) ls ls' w → s .«context_switches» + w .takes < 2 ^ 64
-    unfolding meant
+    unfolding meantAt
     switches-fit ws₂ count now ls' w l f g = omega (arith, few-takes ws₂ count (f .within), g .takes, switches-figure M (v .bounded))
 
     module _ (t : Tick) (c : Charged) (p : Planned) (w : Written) (qs' ls' ws₁ ws' : List ℕ)
@@ -178,14 +179,14 @@ module _ (s : Sched) (ts : List ThreadInfo) (qs ps ls ws : List ℕ) (v : Valid 
       long-lanes = P .longLanes ∙ C .lanes .size
 
       pass : observed (s .cores) (statesOf (p .states)) (p .exits) (p .blocks) (p .yields) (p .progressed) qs' (p .queued) ws' (p .moves) ≡ decide (rules M) (M .cores) (M .queue)
-      unfolding meant
+      unfolding meantAt
       pass = P .decided ∙ ap (λ (k : Rules). decide k (M .cores) (M .queue)) (sym rules-same)
 
       count-long : p .moves ≤ length ws'
       count-long = omega (arith, P .few, long-lanes, v .sizes .lanes)
 
       known : (k : ℕ) → k < p .moves → tidAt ws' k < s .threads
-      unfolding passOf meant threadsIn
+      unfolding passOf meantAt threadsIn
       known =
           let a : MovesIn (length (M .accounts .threads)) (decide (rules M) (M .cores) (M .queue) .moves) =
           decide-in _ (rules M) (M .cores) (M .queue) (placed-cores M (v .bounded .placed) still-open) (placed-queue M (v .bounded .placed)) .moves in
@@ -199,14 +200,14 @@ module _ (s : Sched) (ts : List ThreadInfo) (qs ps ls ws : List ℕ) (v : Valid 
         charged-front = subst (λ (n : ℕ). Front n (chargeThreads (coresMeant (statesOf (s .states))) 0 (threadsIn ts n)) ts ts₁) (threads-taken s h) f
 
         charged-threads : threadsIn ts₁ (s .threads) ≡ chargeThreads (M .cores) 0 (threadsIn ts (s .threads))
-        unfolding meant
+        unfolding meantAt
         charged-threads = charged-front .front ∙ charge-used (s .states) (s .exits) (s .blocks) (s .yields) (s .progressed) (s .cores) (v .sizes .cores) (v .marks .unused) (threadsIn ts (s .threads))
 
         charged-long : length ts₁ ≡ length ts
         charged-long = front-long (s .threads) _ ts ts₁ charged-front (priority-charged (coresMeant (statesOf (s .states))) 0 (threadsIn ts (s .threads))) records-long
 
         pub moves-fit : MovesFit ts₁ ws' (p .moves)
-        unfolding meant threadsIn
+        unfolding meantAt threadsIn
         moves-fit =
             record {
               within = count-long;
@@ -234,14 +235,14 @@ module _ (s : Sched) (ts : List ThreadInfo) (qs ps ls ws : List ℕ) (v : Valid 
           moved-long = front-long (s .threads) _ ts₁ ts' moved-front (priority-moved (s .now .0 + 1) ms (threadsIn ts₁ (s .threads))) (omega (arith, charged-long, records-long)) ∙ charged-long
 
           priorities-kept : take (s .threads) ps ≡ prioritiesOf (threadsIn ts' (s .threads))
-          unfolding meant threadsIn
+          unfolding meantAt threadsIn
           priorities-kept = v .priorities ∙ sym (ap prioritiesOf all-threads ∙ priority-moved (s .now .0 + 1) ms _ ∙ priority-charged (M .cores) 0 (threadsIn ts (s .threads)))
 
           ---- the state
 
           -- the accounts, part by part
-          accounts-same : meant s' ts' qs' ls' ws' .accounts ≡ applyMoves (s .capacities .events) (s .now .0 + 1) ms (charged M)
-          unfolding meant threadsIn charge
+          accounts-same : meantAt s' ts' qs' ls' ws' .accounts ≡ applyMoves (s .capacities .events) (s .now .0 + 1) ms (charged M)
+          unfolding meantAt threadsIn charge
           accounts-same =
               λ i. record {
                 threads = (all-threads ∙ sym (moved-threads (s .capacities .events) (s .now .0 + 1) ms (charged M))) i;
@@ -255,13 +256,13 @@ module _ (s : Sched) (ts : List ThreadInfo) (qs ps ls ws : List ℕ) (v : Valid 
           ended : Pass → State
           ended x = record { config = M .config; cores = x .cores; queue = x .queue; accounts = applyMoves (s .capacities .events) (s .now .0 + 1) (x .moves) (charged M); now = s .now .0 + 1; closed = s .closed }
 
-          state-same : meant s' ts' qs' ls' ws' ≡ accept M tick .state
-          unfolding accept meant passOf ended
+          state-same : meantAt s' ts' qs' ls' ws' ≡ accept M tick .state
+          unfolding accept meantAt passOf ended
           state-same =
-              (λ i. record { config = M .config; cores = meant s' ts' qs' ls' ws' .cores; queue = take (p .queued) qs'; accounts = accounts-same i; now = et i; closed = s .closed })
+              (λ i. record { config = M .config; cores = meantAt s' ts' qs' ls' ws' .cores; queue = take (p .queued) qs'; accounts = accounts-same i; now = et i; closed = s .closed })
               ∙ ap ended pass
 
-          sizes : Sizes (s .capacities) (s .cores) (s .threads) (p .queued) ts' qs' ps ls' ws'
+          sizes : Sizes (s .capacities) (s .cores) (s .threads) (p .queued) (memory ts' qs' ps ls' ws')
           sizes =
               record {
                 cores = v .sizes .cores;
@@ -292,7 +293,7 @@ module _ (s : Sched) (ts : List ThreadInfo) (qs ps ls ws : List ℕ) (v : Valid 
                 unused = λ i l. P .unused i l ∙ v .marks .unused i l;
               }
 
-          frame : Frame s s' ts ts' qs qs' ps ps ls ls' ws ws'
+          frame : Frame s s' (memory ts qs ps ls ws) (memory ts' qs' ps ls' ws')
           frame =
               let m : max (s .queued) (p .queued) ≡ s .queued = omega (arith, P .queue .fits) in
               record {
@@ -303,8 +304,8 @@ module _ (s : Sched) (ts : List ThreadInfo) (qs ps ls ws : List ℕ) (v : Valid 
                 lanes = behind-more 80 (s .cores * (2 * s .capacities .segments)) ws₁ ws' (P .behind) ∙ C .lanes .after;
               }
 
-          pub tick-done : (a : CallAnswer) → a ≡ CallCases.Taken → Done tick (switchAnswerMeant a (w .switches .entries) (w .switches .count)) s s' ts ts' qs qs' ps ps ls ls' ws ws'
-          unfolding accept passOf meant threadsIn
+          pub tick-done : (a : CallAnswer) → a ≡ CallCases.Taken → Done tick (switchAnswerMeant a (w .switches .entries) (w .switches .count)) s s' (memory ts qs ps ls ws) (memory ts' qs' ps ls' ws')
+          unfolding accept passOf meantAt threadsIn
           tick-done a e =
               let is : switchAnswerMeant a (w .switches .entries) (w .switches .count) ≡ switched (switchesMeant (w .switches .entries) (w .switches .count)) = ap (λ (b : CallAnswer). switchAnswerMeant b (w .switches .entries) (w .switches .count)) e in
               done-taken tick s ts qs ps ls ws v _ s' ts' qs' ps ls' ws' (tick-refusal s ts qs ls ws ∙ h) state-same

@@ -24,6 +24,7 @@ use Rattle.charges.specs.Charging.{coresMeant}
 use Rattle.record_moves.specs.Moves.{movedThreads}
 use Rattle.threads.specs.Slice.{threadsIn, Front, tidAt, MovesFit}
 use Rattle.state.specs.declared.Sched.{Sched}
+use Rattle.state.specs.Memory.{memory}
 use Rattle.state.specs.State.{firsts, coreFrom, statesOf, noTicks, noPos, moveRoom, laneStart, laneWords, logWords}
 use Rattle.state.specs.Done.{Done}
 use Rattle.accounts.specs.Charging.{TicksCharged, LanesCharged}
@@ -53,7 +54,7 @@ MovedRecords now ws count ts₁ ts' = (n : ℕ) → ((k : ℕ) → k < count →
 -- a tick end that is done once the records are charged and the moves applied to them
 pub record TickPending (a : Answer) (s s' : Sched) (count : ℕ) (ts : List ThreadInfo) (qs qs' ps ls ls' ws ws' : List ℕ) : Type 0 where
   pub fits : (ts₁ : List ThreadInfo) → ChargedRecords s ts ts₁ → MovesFit ts₁ ws' count
-  pub done : (ts₁ ts' : List ThreadInfo) → ChargedRecords s ts ts₁ → MovedRecords (s .now .0 + 1) ws' count ts₁ ts' → Done tick a s s' ts ts' qs qs' ps ps ls ls' ws ws'
+  pub done : (ts₁ ts' : List ThreadInfo) → ChargedRecords s ts ts₁ → MovedRecords (s .now .0 + 1) ws' count ts₁ ts' → Done tick a s s' (memory ts qs ps ls ws) (memory ts' qs' ps ls' ws')
 
 ---- charging
 

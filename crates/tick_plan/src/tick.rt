@@ -34,6 +34,7 @@ ghost use Rattle.model.specs.declared.ThreadInfo.{ThreadInfo};
 ghost use Rattle.model.specs.Reading.{switchAnswerMeant};
 ghost use Rattle.model.specs.declared.CallAnswer.the-variants as CallCases;
 ghost use Rattle.queue.specs.Words.{movesIn};
+ghost use Rattle.state.specs.Memory.{memory};
 ghost use Rattle.state.specs.State.{statesOf, noTicks, noPos, laneStart, laneWords, logWords, Valid};
 ghost use Rattle.rings.specs.Ring.{RingOK};
 ghost use Rattle.quiet.specs.Quiet.{isQuiet, Roomy};
@@ -98,7 +99,9 @@ fn charge_each(
     tick: Tick,
     lanes: &mut [u64],
 ) -> Charged
-    requires { ⌜ (n ≤ 8) × ((i : ℕ) → i < n → TicksRoom (getD old i noTicks)) × (segments ≤ 4096) × (laneStart segments n ≤ length (now lanes)) × (tick .0 < 4294967295) × ((i : ℕ) → i < n → RingOK (laneWords segments i (now lanes)) (getD pos i noPos)) ⌝ }
+    requires { ⌜ (n ≤ 8) × ((i : ℕ) → i < n
+        → TicksRoom (getD old i noTicks)) × (segments ≤ 4096) × (laneStart segments n ≤ length (now lanes)) × (tick .0 < 4294967295) × ((i : ℕ)
+        → i < n → RingOK (laneWords segments i (now lanes)) (getD pos i noPos)) ⌝ }
     ensures ticks { λ r. ⌜ TicksCharged n states old (r .ticks) ⌝ }
     ensures lanes { λ r. ⌜ LanesCharged segments n (tick .0) states (now (lanes .entry)) (now (lanes .exit)) pos (r .lanes) ⌝ }
     ensures eight { λ r. ⌜ (length (r .ticks) ≡ 8) × (length (r .lanes) ≡ 8) ⌝ }
@@ -315,7 +318,9 @@ fn write_nothing(s: Sched, lanes: &[u64]) -> Written
 fn tick_quiet(s: Sched, answer: CallAnswer, charged: Charged, lanes: &[u64]) -> Decided
     requires { ⌜ (s .cores ≤ 8) × (isQuiet s ≡ true) × Roomy s × (s .now .0 + 1 < 2 ^ 64) ⌝ }
     ensures answer { λ r. ⌜ r .answer ≡ answer ⌝ }
-    ensures pending { λ r. ⌜ ((ts : List ThreadInfo) (qs ps ls ws ws' : List ℕ) → Valid s ts qs ps ls ws → tickRefusal s ≡ none → ChargedOf s ws ws' charged → answer ≡ CallCases.Taken → TickPending (switchAnswerMeant (r .answer) (r .switches .entries) (r .switches .count)) s (r .sched) (r .moves) ts qs qs ps ls ls ws ws') ⌝ }
+    ensures pending { λ r. ⌜ ((ts : List ThreadInfo) (qs ps ls ws ws' : List ℕ) → Valid s (memory ts qs ps ls ws) → tickRefusal s ≡ none
+        → ChargedOf s ws ws' charged → answer ≡ CallCases.Taken
+        → TickPending (switchAnswerMeant (r .answer) (r .switches .entries) (r .switches .count)) s (r .sched) (r .moves) ts qs qs ps ls ls ws ws') ⌝ }
 {
     let planned = plan_quiet(s);
     let tick = next_tick(s);
@@ -339,9 +344,11 @@ fn tick_taken(
     log: &mut [u64],
     lanes: &mut [u64],
 ) -> Decided
-    requires { ⌜ (tickRefusal s ≡ none) × ((ts : List ThreadInfo) × Valid s ts (now queue) (now prios) (now log) (now lanes)) ⌝ }
+    requires { ⌜ (tickRefusal s ≡ none) × ((ts : List ThreadInfo) × Valid s (memory ts (now queue) (now prios) (now log) (now lanes))) ⌝ }
     ensures answer { λ r. ⌜ r .answer ≡ answer ⌝ }
-    ensures pending { λ r. ⌜ ((ts : List ThreadInfo) → Valid s ts (now (queue .entry)) (now (prios .entry)) (now (log .entry)) (now (lanes .entry)) → answer ≡ CallCases.Taken → TickPending (switchAnswerMeant (r .answer) (r .switches .entries) (r .switches .count)) s (r .sched) (r .moves) ts (now (queue .entry)) (now (queue .exit)) (now (prios .entry)) (now (log .entry)) (now (log .exit)) (now (lanes .entry)) (now (lanes .exit))) ⌝ }
+    ensures pending { λ r. ⌜ ((ts : List ThreadInfo) → Valid s
+        (memory ts (now (queue .entry)) (now (prios .entry)) (now (log .entry)) (now (lanes .entry))) → answer ≡ CallCases.Taken
+        → TickPending (switchAnswerMeant (r .answer) (r .switches .entries) (r .switches .count)) s (r .sched) (r .moves) ts (now (queue .entry)) (now (queue .exit)) (now (prios .entry)) (now (log .entry)) (now (log .exit)) (now (lanes .entry)) (now (lanes .exit))) ⌝ }
 {
     let charged = charge_tick(s, lanes);
     if is_quiet(s) {
@@ -370,8 +377,9 @@ pub fn tick_decided(
     log: &mut [u64],
     lanes: &mut [u64],
 ) -> Decided
-    requires { ⌜ ((ts : List ThreadInfo) × Valid s ts (now queue) (now prios) (now log) (now lanes)) ⌝ }
-    ensures { λ r. ⌜ ((ts : List ThreadInfo) → Valid s ts (now (queue .entry)) (now (prios .entry)) (now (log .entry)) (now (lanes .entry)) → TickPending (switchAnswerMeant (r .answer) (r .switches .entries) (r .switches .count)) s (r .sched) (r .moves) ts (now (queue .entry)) (now (queue .exit)) (now (prios .entry)) (now (log .entry)) (now (log .exit)) (now (lanes .entry)) (now (lanes .exit))) ⌝ }
+    requires { ⌜ ((ts : List ThreadInfo) × Valid s (memory ts (now queue) (now prios) (now log) (now lanes))) ⌝ }
+    ensures { λ r. ⌜ ((ts : List ThreadInfo) → Valid s (memory ts (now (queue .entry)) (now (prios .entry)) (now (log .entry)) (now (lanes .entry)))
+        → TickPending (switchAnswerMeant (r .answer) (r .switches .entries) (r .switches .count)) s (r .sched) (r .moves) ts (now (queue .entry)) (now (queue .exit)) (now (prios .entry)) (now (log .entry)) (now (log .exit)) (now (lanes .entry)) (now (lanes .exit))) ⌝ }
 {
     let answer = check_tick(s);
     match answer {

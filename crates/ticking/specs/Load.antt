@@ -10,6 +10,7 @@ use Rattle.model.specs.declared.ThreadInfo.{ThreadInfo}
 use Rattle.model.specs.Types.{State}
 use Rattle.model.specs.Calls.{run, new, made}
 use Rattle.state.specs.declared.Capacities.{Capacities}
+use Rattle.state.specs.Memory.{Memory, Unchanged}
 use Rattle.state.specs.State.{meant, Valid}
 use Rattle.checks.specs.Check.{checkMeant}
 use Rattle.new_plan.specs.First.{coreCount, newRefusal}
@@ -23,17 +24,17 @@ due (some m) n = 0
 due none n = n
 
 -- Where `new` is accepted; `start` is what the definition's `new` makes of the same arguments.
-pub record LoadTaken (c : SchedConfig) (n : ℕ) (k : Capacities) (count ticks : ℕ) (ts ts' : List ThreadInfo) (qs qs' ps ps' ls ls' ws ws' : List ℕ) (r : Loaded) : Type 0 where
+pub record LoadTaken (c : SchedConfig) (n : ℕ) (k : Capacities) (count ticks : ℕ) (m m' : Memory) (r : Loaded) : Type 0 where
   pub start : State
   pub begins : new (policyMeant (c .policy)) (c .quantum) (c .«switch_cost») n (k .threads) (k .events) (k .segments) 0 ≡ made start
-  pub state : meant (r .sched) ts' qs' ls' ws' ≡ run start (spawns count ++ turns (coreCount n) ticks)
-  pub valid : Valid (r .sched) ts' qs' ps' ls' ws'
+  pub state : meant (r .sched) m' ≡ run start (spawns count ++ turns (coreCount n) ticks)
+  pub valid : Valid (r .sched) m'
   -- memory that the capacities do not name stays as it was
-  pub behind : Behind (k .threads) (k .events) (k .segments) (coreCount n) ts ts' qs qs' ps ps' ls ls' ws ws'
+  pub behind : Behind (k .threads) (k .events) (k .segments) (coreCount n) m m'
 
--- c, n and k are the arguments of `new`; ts, qs, ps, ls and ws are the lent thread records, queue, priority numbers, log and lanes before, with a prime after; r is the result.
-pub record LoadDone (c : SchedConfig) (n : ℕ) (k : Capacities) (count ticks : ℕ) (ts ts' : List ThreadInfo) (qs qs' ps ps' ls ls' ws ws' : List ℕ) (r : Loaded) : Type 0 where
-  pub answer : checkMeant (r .made) ≡ newRefusal c n k (length ts) (length qs) (length ps) (length ls) (length ws)
+-- c, n and k are the arguments of `new`; m is the lent memory before and m' after; r is the result.
+pub record LoadDone (c : SchedConfig) (n : ℕ) (k : Capacities) (count ticks : ℕ) (m m' : Memory) (r : Loaded) : Type 0 where
+  pub answer : checkMeant (r .made) ≡ newRefusal c n k (length (m .threads)) (length (m .queue)) (length (m .prios)) (length (m .log)) (length (m .lanes))
   -- refused, nothing is written; what r holds beside the refusal is then left open
-  pub refused : (m : ℕ) → checkMeant (r .made) ≡ some m → (ts' ≡ ts) × (qs' ≡ qs) × (ps' ≡ ps) × (ls' ≡ ls) × (ws' ≡ ws)
-  pub taken : checkMeant (r .made) ≡ none → LoadTaken c n k count ticks ts ts' qs qs' ps ps' ls ls' ws ws' r
+  pub refused : (i : ℕ) → checkMeant (r .made) ≡ some i → Unchanged m m'
+  pub taken : checkMeant (r .made) ≡ none → LoadTaken c n k count ticks m m' r

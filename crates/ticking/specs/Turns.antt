@@ -6,6 +6,7 @@ use mathlib.Core.List.{List, [], _∷_, _++_}
 use Rattle.model.specs.declared.ThreadInfo.{ThreadInfo}
 use Rattle.model.specs.Calls.{Call, spawn, retired, tick, run}
 use Rattle.state.specs.declared.Sched.{Sched}
+use Rattle.state.specs.Memory.{Memory, memory}
 use Rattle.state.specs.State.{meant, Valid}
 use Rattle.replay.specs.Replay.{Behind}
 
@@ -23,21 +24,21 @@ spawns zero = []
 spawns (suc n) = spawns n ++ (spawn (some 0) 0 ∷ [])
 
 -- What the calls `cs` leave, made one after the other, each on what the one before left.
-pub record Ran (cs : List Call) (s s' : Sched) (ts ts' : List ThreadInfo) (qs qs' ps ps' ls ls' ws ws' : List ℕ) : Type 0 where
-  pub state : meant s' ts' qs' ls' ws' ≡ run (meant s ts qs ls ws) cs
-  pub valid : Valid s' ts' qs' ps' ls' ws'
+pub record Ran (cs : List Call) (s s' : Sched) (m m' : Memory) : Type 0 where
+  pub state : meant s' m' ≡ run (meant s m) cs
+  pub valid : Valid s' m'
   -- memory that the capacities do not name stays as it was
-  pub behind : Behind (s .capacities .threads) (s .capacities .events) (s .capacities .segments) (s .cores) ts ts' qs qs' ps ps' ls ls' ws ws'
+  pub behind : Behind (s .capacities .threads) (s .capacities .events) (s .capacities .segments) (s .cores) m m'
 
 -- What so many turns leave. No turn asks nothing, and leaves everything as it was.
 pub record TurnsDone (ticks : ℕ) (s s' : Sched) (ts ts' : List ThreadInfo) (qs qs' ps ls ls' ws ws' : List ℕ) : Type 0 where
   pub unmoved : ticks ≡ 0 → (s' ≡ s) × (ts' ≡ ts) × (qs' ≡ qs) × (ls' ≡ ls) × (ws' ≡ ws)
-  pub ran : Valid s ts qs ps ls ws → Ran (turns (s .cores) ticks) s s' ts ts' qs qs' ps ps ls ls' ws ws'
+  pub ran : Valid s (memory ts qs ps ls ws) → Ran (turns (s .cores) ticks) s s' (memory ts qs ps ls ws) (memory ts' qs' ps ls' ws')
 
 -- What so many spawns leave; they leave the lanes, whatever these hold. No spawn asks nothing, and leaves everything as it was.
 pub record SpawnsDone (count : ℕ) (s s' : Sched) (ts ts' : List ThreadInfo) (qs qs' ps ps' ls ls' : List ℕ) : Type 0 where
   pub unmoved : count ≡ 0 → (s' ≡ s) × (ts' ≡ ts) × (qs' ≡ qs) × (ps' ≡ ps) × (ls' ≡ ls)
-  pub ran : (ws : List ℕ) → Valid s ts qs ps ls ws → Ran (spawns count) s s' ts ts' qs qs' ps ps' ls ls' ws ws
+  pub ran : (ws : List ℕ) → Valid s (memory ts qs ps ls ws) → Ran (spawns count) s s' (memory ts qs ps ls ws) (memory ts' qs' ps' ls' ws)
 
 -- `s` is what `new` or a call left, with some lent memory
 pub record Lent (s : Sched) : Type 0 where
@@ -46,4 +47,4 @@ pub record Lent (s : Sched) : Type 0 where
   pub prios : List ℕ
   pub log : List ℕ
   pub lanes : List ℕ
-  pub valid : Valid s threads queue prios log lanes
+  pub valid : Valid s (memory threads queue prios log lanes)

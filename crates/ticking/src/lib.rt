@@ -21,6 +21,7 @@ ghost use mathlib.Core.List.{List};
 ghost use Prim.Native.Nat.{ℕ, _<_};
 ghost use Rattle.model.specs.declared.ThreadInfo.{ThreadInfo};
 ghost use Rattle.model.specs.Reading.{optionTidMeant};
+ghost use Rattle.state.specs.Memory.{lent, memory};
 ghost use Rattle.state.specs.State.{Valid};
 ghost use Rattle.checks.specs.Check.{checkMeant};
 ghost use Rattle.ticking.specs.Turns.{reports, Ran, TurnsDone, SpawnsDone, Lent};
@@ -41,7 +42,8 @@ pub struct LoadedArray {
 // Every core reports.
 fn retired_all(s: Sched) -> Sched
     requires { ⌜ Lent s ⌝ }
-    ensures { λ r. ⌜ ((ts : List ThreadInfo) (qs ps ls ws : List ℕ) → Valid s ts qs ps ls ws → Ran (reports (s .cores)) s r ts ts qs qs ps ps ls ls ws ws) ⌝ }
+    ensures { λ r. ⌜ ((ts : List ThreadInfo) (qs ps ls ws : List ℕ) → Valid s (memory ts qs ps ls ws) → Ran (reports (s .cores)) s r
+        (memory ts qs ps ls ws) (memory ts qs ps ls ws)) ⌝ }
 {
     let cores = s.cores;
     let mut next = s;
@@ -70,8 +72,9 @@ pub fn run_ticks(
     log: &mut [u64],
     lanes: &mut [u64],
 ) -> Sched
-    requires { ⌜ (0 < ticks → Valid first (now threads) (now queue) (now prios) (now log) (now lanes)) ⌝ }
-    ensures { λ r. ⌜ TurnsDone ticks first r (now (threads .entry)) (now (threads .exit)) (now (queue .entry)) (now (queue .exit)) (now (prios .entry)) (now (log .entry)) (now (log .exit)) (now (lanes .entry)) (now (lanes .exit)) ⌝ }
+    requires { ⌜ (0 < ticks → Valid first (lent threads queue prios log lanes)) ⌝ }
+    ensures { λ r. ⌜ TurnsDone ticks first r (now (threads .entry)) (now (threads .exit))
+        (now (queue .entry)) (now (queue .exit)) (now (prios .entry)) (now (log .entry)) (now (log .exit)) (now (lanes .entry)) (now (lanes .exit)) ⌝ }
 {
     let mut last = first;
     let mut i = 0;
@@ -105,8 +108,9 @@ pub fn spawn_all(
     prios: &mut [u32],
     log: &mut [u64],
 ) -> Sched
-    requires { ⌜ (0 < count → (ws : List ℕ) × Valid first (now threads) (now queue) (now prios) (now log) ws) ⌝ }
-    ensures { λ r. ⌜ SpawnsDone count first r (now (threads .entry)) (now (threads .exit)) (now (queue .entry)) (now (queue .exit)) (now (prios .entry)) (now (prios .exit)) (now (log .entry)) (now (log .exit)) ⌝ }
+    requires { ⌜ (0 < count → (ws : List ℕ) × Valid first (memory (now threads) (now queue) (now prios) (now log) ws)) ⌝ }
+    ensures { λ r. ⌜ SpawnsDone count first r (now (threads .entry)) (now (threads .exit))
+        (now (queue .entry)) (now (queue .exit)) (now (prios .entry)) (now (prios .exit)) (now (log .entry)) (now (log .exit)) ⌝ }
 {
     let parent = thread_0();
     let mut last = first;
@@ -156,7 +160,8 @@ pub fn run_load(
     log: &mut [u64],
     lanes: &mut [u64],
 ) -> Loaded
-    ensures { λ r. ⌜ LoadDone config cores capacities count ticks (now (threads .entry)) (now (threads .exit)) (now (queue .entry)) (now (queue .exit)) (now (prios .entry)) (now (prios .exit)) (now (log .entry)) (now (log .exit)) (now (lanes .entry)) (now (lanes .exit)) r ⌝ }
+    ensures { λ r. ⌜ LoadDone config cores capacities count ticks (lent (threads .entry) (queue .entry) (prios .entry) (log .entry) (lanes .entry))
+        (lent (threads .exit) (queue .exit) (prios .exit) (log .exit) (lanes .exit)) r ⌝ }
 {
     let created = new(
         config,
@@ -196,7 +201,9 @@ pub fn run_load_in(
     log: &mut [u64],
     lanes: &mut [u64],
 ) -> LoadedArray
-    ensures { λ r. ⌜ LoadDone config cores capacities count ticks threads (r .threads) (now (queue .entry)) (now (queue .exit)) (now (prios .entry)) (now (prios .exit)) (now (log .entry)) (now (log .exit)) (now (lanes .entry)) (now (lanes .exit)) (r .loaded) ⌝ }
+    ensures { λ r. ⌜ LoadDone config cores capacities count ticks
+        (memory threads (now (queue .entry)) (now (prios .entry)) (now (log .entry)) (now (lanes .entry)))
+        (memory (r .threads) (now (queue .exit)) (now (prios .exit)) (now (log .exit)) (now (lanes .exit))) (r .loaded) ⌝ }
 {
     let mut records = threads;
     let loaded = run_load(

@@ -16,6 +16,7 @@ use Rattle.model.specs.Reading.{threadMeant}
 use Rattle.model.specs.Calls.{check, refusedNew, badTiming}
 use Rattle.state.specs.declared.Capacities.{Capacities}
 use Rattle.state.specs.declared.Sched.{Sched}
+use Rattle.state.specs.Memory.{memory}
 use Rattle.state.specs.State.{Valid}
 use Rattle.checks.specs.Check.{checkMeant}
 use Rattle.new_plan.specs.First.{newRefusal, isShort, coreCount}
@@ -25,14 +26,14 @@ use Rattle.record_reads.specs.Totals.{totalsOf, addTotals}
 use Rattle.threads.specs.Slice.{blank, threadsIn}
 use Rattle.threads.proofs.Reading.{sums-next}
 
-module _ (c : SchedConfig) (n : ℕ) (k : Capacities) (pc : ℕ) (ts ts' : List ThreadInfo) (qs ps ps' ls ls' ws : List ℕ) (s : Sched) (a : CallAnswer) (d : NewDone c n k pc ts ts' qs ps ps' ls ls' ws s a) where
-  pub kept-taken : a ≡ Answers.Taken → Valid s ts' qs ps' ls' ws
+module _ (c : SchedConfig) (n : ℕ) (k : Capacities) (pc : ℕ) (ts ts' : List ThreadInfo) (qs ps ps' ls ls' ws : List ℕ) (s : Sched) (a : CallAnswer) (d : NewDone c n k pc (memory ts qs ps ls ws) (memory ts' qs ps' ls' ws) s a) where
+  pub kept-taken : a ≡ Answers.Taken → Valid s (memory ts' qs ps' ls' ws)
   kept-taken e = d .taken (ap checkMeant e) .valid
 
-  pub kept-refused : (s₀ : Sched) → Valid s₀ ts qs ps ls ws → (r : Refusal) → a ≡ Answers.Refused r → Valid s₀ ts' qs ps' ls' ws
+  pub kept-refused : (s₀ : Sched) → Valid s₀ (memory ts qs ps ls ws) → (r : Refusal) → a ≡ Answers.Refused r → Valid s₀ (memory ts' qs ps' ls' ws)
   kept-refused s₀ v r e =
       let same = d .refused _ (ap checkMeant e) in
-      subst (λ (l : List ThreadInfo). Valid s₀ l qs ps' ls' ws) (sym (same .0)) (subst (λ (l : List ℕ). Valid s₀ ts qs l ls' ws) (sym (same .1)) (subst (λ (l : List ℕ). Valid s₀ ts qs ps l ws) (sym (same .2)) v))
+      subst (λ (l : List ThreadInfo). Valid s₀ (memory l qs ps' ls' ws)) (sym (same .0)) (subst (λ (l : List ℕ). Valid s₀ (memory ts qs l ls' ws)) (sym (same .2)) (subst (λ (l : List ℕ). Valid s₀ (memory ts qs ps l ws)) (sym (same .3)) v))
 
 abbrev firstConfig : SchedConfig
 firstConfig = record { policy = Policies.RoundRobin; quantum = 1; «switch_cost» = 0 }
@@ -44,8 +45,8 @@ none-refused : newRefusal firstConfig 1 firstCapacities 256 256 256 1024 65616 �
 unfolding newRefusal isShort coreCount refusedNew check beyond badTiming
 none-refused = refl
 
-pub first-valid : (ts ts' : List ThreadInfo) (qs ps ps' ls ls' ws : List ℕ) (s : Sched) (a : CallAnswer) → NewDone firstConfig 1 firstCapacities 0 ts ts' qs ps ps' ls ls' ws s a
-    → length ts ≡ 256 → length qs ≡ 256 → length ps ≡ 256 → length ls ≡ 1024 → length ws ≡ 65616 → Valid s ts' qs ps' ls' ws
+pub first-valid : (ts ts' : List ThreadInfo) (qs ps ps' ls ls' ws : List ℕ) (s : Sched) (a : CallAnswer) → NewDone firstConfig 1 firstCapacities 0 (memory ts qs ps ls ws) (memory ts' qs ps' ls' ws) s a
+    → length ts ≡ 256 → length qs ≡ 256 → length ps ≡ 256 → length ls ≡ 1024 → length ws ≡ 65616 → Valid s (memory ts' qs ps' ls' ws)
 first-valid ts ts' qs ps ps' ls ls' ws s a d eT eQ eP eL eW = d .taken (d .answer ∙ same ∙ none-refused) .valid
   where
     same : newRefusal firstConfig 1 firstCapacities (length ts) (length qs) (length ps) (length ls) (length ws) ≡ newRefusal firstConfig 1 firstCapacities 256 256 256 1024 65616

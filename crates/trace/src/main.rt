@@ -33,6 +33,7 @@ ghost use Prim.Native.Nat.{ℕ, _≤_};
 ghost use lib.ListN.{length};
 ghost use Rattle.record_reads.specs.Totals.{totalsOf, TotalsFit};
 ghost use Rattle.threads.specs.Slice.{threadsIn};
+ghost use Rattle.state.specs.Memory.{memory};
 ghost use Rattle.state.specs.State.{Valid};
 
 // The scheduler between two lines, with its records.
@@ -81,7 +82,7 @@ fn sums_of(threads: [ThreadInfo; 256], n: usize) -> Totals
 
 // The whole state.
 fn show(s: Sched, threads: [ThreadInfo; 256], queue: &[u32], log: &[u64], lanes: &[u64])
-    requires { ⌜ ((ps : List ℕ) × Valid s threads (now queue) ps (now log) (now lanes)) ⌝ }
+    requires { ⌜ ((ps : List ℕ) × Valid s (memory threads (now queue) ps (now log) (now lanes))) ⌝ }
 {
     print_shown();
     print_front(s, queue);
@@ -103,8 +104,8 @@ fn start(
     log: &mut [u64],
     lanes: &[u64],
 ) -> Turn
-    requires { ⌜ Valid s threads (now queue) (now prios) (now log) (now lanes) ⌝ }
-    ensures { λ r. ⌜ Valid (r .sched) (r .threads) (now (queue .entry)) (now (prios .exit)) (now (log .exit)) (now (lanes .entry)) ⌝ }
+    requires { ⌜ Valid s (memory threads (now queue) (now prios) (now log) (now lanes)) ⌝ }
+    ensures { λ r. ⌜ Valid (r .sched) (memory (r .threads) (now (queue .entry)) (now (prios .exit)) (now (log .exit)) (now (lanes .entry))) ⌝ }
 {
     let config = setup.config;
     let capacities = setup.capacities;
@@ -148,8 +149,8 @@ fn step(
     log: &mut [u64],
     lanes: &mut [u64],
 ) -> Turn
-    requires { ⌜ Valid s threads (now queue) (now prios) (now log) (now lanes) ⌝ }
-    ensures { λ r. ⌜ Valid (r .sched) (r .threads) (now (queue .exit)) (now (prios .exit)) (now (log .exit)) (now (lanes .exit)) ⌝ }
+    requires { ⌜ Valid s (memory threads (now queue) (now prios) (now log) (now lanes)) ⌝ }
+    ensures { λ r. ⌜ Valid (r .sched) (memory (r .threads) (now (queue .exit)) (now (prios .exit)) (now (log .exit)) (now (lanes .exit))) ⌝ }
 {
     let stepped = apply_in(s, call, threads, queue, prios, log, lanes);
     let records = stepped.threads;
@@ -172,8 +173,8 @@ fn trace_line(
     log: &mut [u64],
     lanes: &mut [u64],
 ) -> Turn
-    requires { ⌜ Valid s threads (now queue) (now prios) (now log) (now lanes) ⌝ }
-    ensures { λ r. ⌜ Valid (r .sched) (r .threads) (now (queue .exit)) (now (prios .exit)) (now (log .exit)) (now (lanes .exit)) ⌝ }
+    requires { ⌜ Valid s (memory threads (now queue) (now prios) (now log) (now lanes)) ⌝ }
+    ensures { λ r. ⌜ Valid (r .sched) (memory (r .threads) (now (queue .exit)) (now (prios .exit)) (now (log .exit)) (now (lanes .exit))) ⌝ }
 {
     match line {
         Line::New(setup) => start(setup, s, threads, queue, prios, log, lanes),
@@ -192,7 +193,7 @@ fn trace_line(
 // The scheduler that there is before a script's first line.
 fn first(queue: &[u32], prios: &mut [u32], log: &mut [u64], lanes: &[u64]) -> Turn
     requires { ⌜ (length (now queue) ≡ 256) × (length (now prios) ≡ 256) × (length (now log) ≡ 1024) × (length (now lanes) ≡ 65616) ⌝ }
-    ensures { λ r. ⌜ Valid (r .sched) (r .threads) (now (queue .entry)) (now (prios .exit)) (now (log .exit)) (now (lanes .entry)) ⌝ }
+    ensures { λ r. ⌜ Valid (r .sched) (memory (r .threads) (now (queue .entry)) (now (prios .exit)) (now (log .exit)) (now (lanes .entry))) ⌝ }
 {
     let config = SchedConfig {
         policy: SchedPolicy::RoundRobin,

@@ -19,6 +19,7 @@ ghost use mathlib.Core.List.{List};
 ghost use Prim.Native.Nat.{ℕ, _≤_, _<_};
 ghost use lib.ListN.{length};
 ghost use Rattle.model.specs.declared.ThreadInfo.{ThreadInfo};
+ghost use Rattle.state.specs.Memory.{memory};
 ghost use Rattle.state.specs.State.{Valid};
 
 fn put_kind(out: &mut [u8], at: usize, kind: SchedEventKind) -> usize
@@ -63,7 +64,7 @@ fn put_event(out: &mut [u8], at: usize, e: SchedEvent) -> usize
 }
 
 fn put_events(out: &mut [u8], at: usize, s: Sched, log: &[u64]) -> usize
-    requires { ⌜ (at ≤ length (now out)) × ((ts : List ThreadInfo) × (qs : List ℕ) × (ps : List ℕ) × (ws : List ℕ) × Valid s ts qs ps (now log) ws) ⌝ }
+    requires { ⌜ (at ≤ length (now out)) × ((ts : List ThreadInfo) × (qs : List ℕ) × (ps : List ℕ) × (ws : List ℕ) × Valid s (memory ts qs ps (now log) ws)) ⌝ }
     ensures { λ r. ⌜ r ≤ length (now (out .entry)) ⌝ }
 {
     let pos = s.log;
@@ -111,7 +112,8 @@ fn put_segment(out: &mut [u8], at: usize, core: u64, g: Segment) -> usize
 
 // One core's timeline.
 fn put_timeline(out: &mut [u8], at: usize, s: Sched, lanes: &[u64], i: usize) -> usize
-    requires { ⌜ (at ≤ length (now out)) × (i < s .cores) × (s .cores ≤ 8) × ((ts : List ThreadInfo) × (qs : List ℕ) × (ps : List ℕ) × (ls : List ℕ) × Valid s ts qs ps ls (now lanes)) ⌝ }
+    requires { ⌜ (at ≤ length (now out)) × (i < s .cores) × (s .cores ≤ 8) × ((ts : List ThreadInfo) × (qs : List ℕ) × (ps : List ℕ) × (ls : List ℕ) × Valid s
+        (memory ts qs ps ls (now lanes))) ⌝ }
     ensures { λ r. ⌜ r ≤ length (now (out .entry)) ⌝ }
 {
     let pos = s.lanes[i];
@@ -127,7 +129,8 @@ fn put_timeline(out: &mut [u8], at: usize, s: Sched, lanes: &[u64], i: usize) ->
 }
 
 fn put_timelines(out: &mut [u8], at: usize, s: Sched, lanes: &[u64]) -> usize
-    requires { ⌜ (at ≤ length (now out)) × (s .cores ≤ 8) × ((ts : List ThreadInfo) × (qs : List ℕ) × (ps : List ℕ) × (ls : List ℕ) × Valid s ts qs ps ls (now lanes)) ⌝ }
+    requires { ⌜ (at ≤ length (now out)) × (s .cores ≤ 8) × ((ts : List ThreadInfo) × (qs : List ℕ) × (ps : List ℕ) × (ls : List ℕ) × Valid s
+        (memory ts qs ps ls (now lanes))) ⌝ }
     ensures { λ r. ⌜ r ≤ length (now (out .entry)) ⌝ }
 {
     let n = s.cores;
@@ -142,7 +145,8 @@ fn put_timelines(out: &mut [u8], at: usize, s: Sched, lanes: &[u64]) -> usize
 
 // Log, timelines and questions.
 pub fn print_rest(s: Sched, sums: Totals, log: &[u64], lanes: &[u64])
-    requires { ⌜ (s .cores ≤ 8) × (s .threads ≤ 256) × ((ts : List ThreadInfo) × (qs : List ℕ) × (ps : List ℕ) × Valid s ts qs ps (now log) (now lanes)) ⌝ }
+    requires { ⌜ (s .cores ≤ 8) × (s .threads ≤ 256) × ((ts : List ThreadInfo) × (qs : List ℕ) × (ps : List ℕ) × Valid s
+        (memory ts qs ps (now log) (now lanes))) ⌝ }
 {
     let mut out = io::buffer();
     let a = put_events(&mut out, 0, s, log);

@@ -15,7 +15,8 @@ use Rattle.records.specs.declared.change.Change.the-variants as Changes
 use Rattle.records.specs.Changes.{changeMeant, Fits}
 use Rattle.threads.specs.Slice.{blank, threadsIn, Front}
 use Rattle.state.specs.declared.Sched.{Sched}
-use Rattle.state.specs.State.{meant, Valid}
+use Rattle.state.specs.Memory.{memory}
+use Rattle.state.specs.State.{meantAt, Valid}
 use Rattle.state.specs.Done.{Done}
 use Rattle.state.proofs.Doing.{done-refused}
 use Rattle.updates.specs.Pending.{Pending}
@@ -36,18 +37,18 @@ pub keep-same : (ts ts' : List ThreadInfo) → ((n : ℕ) → 0 < n → Front n 
 unfolding changeMeant
 keep-same ts ts' f = front-same 1 ts ts' (subst (λ (l : List ThreadRecord). Front 1 l ts ts') (update-id 0 (threadsIn ts 1)) (f 1 (omega arith)))
 
-pub some-record : (s : Sched) (ts : List ThreadInfo) (qs ps ls ws : List ℕ) → Valid s ts qs ps ls ws → 0 < length ts
-unfolding meant
+pub some-record : (s : Sched) (ts : List ThreadInfo) (qs ps ls ws : List ℕ) → Valid s (memory ts qs ps ls ws) → 0 < length ts
+unfolding meantAt
 some-record s ts qs ps ls ws v = omega (arith, v .bounded .settings .capT, v .sizes .threads)
 
 pub pending-refused :
-    (c : Call) (s : Sched) (ts : List ThreadInfo) (qs ps ls ws : List ℕ) → Valid s ts qs ps ls ws → (n : ℕ) (a : Answer) → a ≡ refused n → refusal (meant s ts qs ls ws) c ≡ some n
+    (c : Call) (s : Sched) (ts : List ThreadInfo) (qs ps ls ws : List ℕ) → Valid s (memory ts qs ps ls ws) → (n : ℕ) (a : Answer) → a ≡ refused n → refusal (meantAt s ts qs ls ws) c ≡ some n
     → Pending c a s s 0 Changes.Keep ts qs qs ps ps ls ls ws ws
 pending-refused c s ts qs ps ls ws v n a e h =
     record {
       there = some-record s ts qs ps ls ws v;
       fits = tt;
       done = λ ts' f.
-          subst (λ (l : List ThreadInfo). Done c a s s ts l qs qs ps ps ls ls ws ws) (sym (keep-same ts ts' f))
-          (subst (λ (b : Answer). Done c b s s ts ts qs qs ps ps ls ls ws ws) (sym e) (done-refused c s ts qs ps ls ws v n h));
+          subst (λ (l : List ThreadInfo). Done c a s s (memory ts qs ps ls ws) (memory l qs ps ls ws)) (sym (keep-same ts ts' f))
+          (subst (λ (b : Answer). Done c b s s (memory ts qs ps ls ws) (memory ts qs ps ls ws)) (sym e) (done-refused c s ts qs ps ls ws v n h));
     }

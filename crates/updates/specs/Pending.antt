@@ -11,9 +11,10 @@ use Rattle.records.specs.declared.change.Change.{Change}
 use Rattle.records.specs.Changes.{changeMeant, Fits}
 use Rattle.threads.specs.Slice.{blank, threadsIn, Front}
 use Rattle.state.specs.declared.Sched.{Sched}
+use Rattle.state.specs.Memory.{memory}
 use Rattle.state.specs.Done.{Done}
 
 pub record Pending (c : Call) (a : Answer) (s s' : Sched) (place : ℕ) (change : Change) (ts : List ThreadInfo) (qs qs' ps ps' ls ls' ws ws' : List ℕ) : Type 0 where
   pub there : place < length ts
   pub fits : Fits change (threadMeant (getD ts place blank))
-  pub done : (ts' : List ThreadInfo) → ((n : ℕ) → place < n → Front n (update place (changeMeant change) (threadsIn ts n)) ts ts') → Done c a s s' ts ts' qs qs' ps ps' ls ls' ws ws'
+  pub done : (ts' : List ThreadInfo) → ((n : ℕ) → place < n → Front n (update place (changeMeant change) (threadsIn ts n)) ts ts') → Done c a s s' (memory ts qs ps ls ws) (memory ts' qs' ps' ls' ws')

@@ -23,6 +23,7 @@ use denote.Triple.Spec.{Meets, tripleOf}
 use denote.Triple.Table.{entered, cited}
 use Rattle.model.specs.declared.ThreadInfo.{ThreadInfo}
 use Rattle.state.specs.declared.Sched.{Sched}
+use Rattle.state.specs.Memory.{memory}
 use Rattle.state.specs.State.{Valid}
 use Rattle.state.specs.Done.{Done}
 use Rattle.sched.specs.declared.Applied.{Applied}
@@ -58,38 +59,38 @@ reads : (words : List ℕ) {n i : ℕ} → 3 * n ≤ length words → i < n → 
 reads words fit less = omega arith
 
 applies : (words : List ℕ) {n i : ℕ} {a b : Applied} {ts ts' : List ThreadInfo} {qs qs' ps ps' ls ls' ws ws' : List ℕ} {s : Sched}
-    → (0 < n → Valid (a .sched) ts qs ps ls ws) → i < n → AppliedAll (take i (callsOf words)) a b ts ts' qs qs' ps ps' ls ls' ws ws' → s ≡ b .sched → Valid s ts' qs' ps' ls' ws'
+    → (0 < n → Valid (a .sched) (memory ts qs ps ls ws)) → i < n → AppliedAll (take i (callsOf words)) a b (memory ts qs ps ls ws) (memory ts' qs' ps' ls' ws') → s ≡ b .sched → Valid s (memory ts' qs' ps' ls' ws')
 applies words {n} {i} valid less made s-is = rw s-is (made .valid (valid positive))
   where
     positive : 0 < n
     positive = omega arith
 
 goes-on : (words : List ℕ) {n i : ℕ} {a b : Applied} {ts ts' ts″ : List ThreadInfo} {qs qs' qs″ ps ps' ps″ ls ls' ls″ ws ws' ws″ : List ℕ} {s : Sched} (c : Call) (d : Applied)
-    → 3 * n ≤ length words → i < n → AppliedAll (take i (callsOf words)) a b ts ts' qs qs' ps ps' ls ls' ws ws' → s ≡ b .sched → callMeant c ≡ callAt words i
-    → Done (callMeant c) (outcomeMeant (d .outcome) (d .switches)) s (d .sched) ts' ts″ qs' qs″ ps' ps″ ls' ls″ ws' ws″ → AppliedAll (take (i + 1) (callsOf words)) a d ts ts″ qs qs″ ps ps″ ls ls″ ws ws″
+    → 3 * n ≤ length words → i < n → AppliedAll (take i (callsOf words)) a b (memory ts qs ps ls ws) (memory ts' qs' ps' ls' ws') → s ≡ b .sched → callMeant c ≡ callAt words i
+    → Done (callMeant c) (outcomeMeant (d .outcome) (d .switches)) s (d .sched) (memory ts' qs' ps' ls' ws') (memory ts″ qs″ ps″ ls″ ws″) → AppliedAll (take (i + 1) (callsOf words)) a d (memory ts qs ps ls ws) (memory ts″ qs″ ps″ ls″ ws″)
 goes-on words {n} {i} {a} {b} {ts} {ts'} {ts″} {qs} {qs'} {qs″} {ps} {ps'} {ps″} {ls} {ls'} {ls″} {ws} {ws'} {ws″} c d fit less made s-is c-is is-done =
     all-next a b d ts ts' ts″ qs qs' qs″ ps ps' ps″ ls ls' ls″ ws ws' ws″ words i (reads words fit less) made (callMeant c) c-is (rw s-is at is-done)
 
 module _ {M : Type 1} (𝓤 : URA M) (H : Heap 𝓤) (A : Atoms 𝓤) (W : Given 𝓤 H A) (mem : Memory → SProp 𝓤) (run : Routine → Fun 𝓤) where
-  abbrev ps : List (Param 𝓤 H A)
-  ps = by (applied 𝓤 H A W) ∷ shr u32 ∷ by (word 𝓤 H A W) ∷ mut T.the-row ∷ mut u32 ∷ mut u32 ∷ mut u64 ∷ mut u64 ∷ []
+  abbrev params : List (Param 𝓤 H A)
+  params = by (applied 𝓤 H A W) ∷ shr u32 ∷ by (word 𝓤 H A W) ∷ mut T.the-row ∷ mut u32 ∷ mut u32 ∷ mut u64 ∷ mut u64 ∷ []
 
   -- the theorem of each callee, at its entry of the table
   abbrev Callees : Calls 𝓤 H → Type 1
   Callees C = Meets 𝓤 H A reading.signature (C reading-def.name) (reading.spec 𝓤 H A mem run) × Meets 𝓤 H A state.signature (C state-def.name) (state.spec 𝓤 H A mem run) × Meets 𝓤 H A applying.signature (C applying-def.name) (applying.spec 𝓤 H A mem run)
 
-  module _ (κs : Lfts 6) (qs : Shares 6) (a : Args f.signature κs) (are : Sound 𝓤 H A 6 κs qs 0 ps a) where
+  module _ (κs : Lfts 6) (shs : Shares 6) (a : Args f.signature κs) (are : Sound 𝓤 H A 6 κs shs 0 params a) where
     -- what i turns leave
     record Left (i : ℕ) : Type 0 where
       pub last : Known (applied 𝓤 H A W)
-      pub lists : Fulls 𝓤 H A 6 κs qs 0 ps a are
-      pub made : AppliedAll (take i (callsOf (a .1 .0 .now))) (a .0) (last .x) (a .1 .1 .1 .0 .now) (lists .0 .0) (a .1 .1 .1 .1 .0 .now) (lists .1 .0 .0) (a .1 .1 .1 .1 .1 .0 .now) (lists .1 .1 .0 .0) (a .1 .1 .1 .1 .1 .1 .0 .now) (lists .1 .1 .1 .0 .0) (a .1 .1 .1 .1 .1 .1 .1 .0 .now) (lists .1 .1 .1 .1 .0 .0)
+      pub lists : Fulls 𝓤 H A 6 κs shs 0 params a are
+      pub made : AppliedAll (take i (callsOf (a .1 .0 .now))) (a .0) (last .x) (memory (a .1 .1 .1 .0 .now) (a .1 .1 .1 .1 .0 .now) (a .1 .1 .1 .1 .1 .0 .now) (a .1 .1 .1 .1 .1 .1 .0 .now) (a .1 .1 .1 .1 .1 .1 .1 .0 .now)) (memory (lists .0 .0) (lists .1 .0 .0) (lists .1 .1 .0 .0) (lists .1 .1 .1 .0 .0) (lists .1 .1 .1 .1 .0 .0))
 
   f-meets : (𝓣 : Tables 𝓤 H) → Callees (𝓣 .C) → Meets 𝓤 H A f.signature (WpFn 𝓤 H (𝓣 .C) (𝓣 .Λ) code.function) (f.spec 𝓤 H A mem run)
-  f-meets 𝓣 met = function-meets 𝓤 H A W ps (applied 𝓤 H A W) (f.clauses 𝓤 H A mem run) 𝓣 code.function
-      (λ κs a. (3 * a .1 .1 .0 ≤ length (a .1 .0 .now)) × (0 < a .1 .1 .0 → Valid (a .0 .sched) (a .1 .1 .1 .0 .now) (a .1 .1 .1 .1 .0 .now) (a .1 .1 .1 .1 .1 .0 .now) (a .1 .1 .1 .1 .1 .1 .0 .now) (a .1 .1 .1 .1 .1 .1 .1 .0 .now)))
+  f-meets 𝓣 met = function-meets 𝓤 H A W params (applied 𝓤 H A W) (f.clauses 𝓤 H A mem run) 𝓣 code.function
+      (λ κs a. (3 * a .1 .1 .0 ≤ length (a .1 .0 .now)) × (0 < a .1 .1 .0 → Valid (a .0 .sched) (memory (a .1 .1 .1 .0 .now) (a .1 .1 .1 .1 .0 .now) (a .1 .1 .1 .1 .1 .0 .now) (a .1 .1 .1 .1 .1 .1 .0 .now) (a .1 .1 .1 .1 .1 .1 .1 .0 .now))))
       (λ κs a g. id⊢ 𝓤 _) refl (λ κs. refl)
-      (λ κs qs bounds a g are pre blk.
+      (λ κs shs bounds a g are pre blk.
       let fm = fmOf 𝓤 H (W .laws) 𝓣 in
       let words : List ℕ = a .1 .0 .now in
       let n : ℕ = a .1 .1 .0 in
@@ -102,8 +103,8 @@ module _ {M : Type 1} (𝓤 : URA M) (H : Heap 𝓤) (A : Atoms 𝓤) (W : Given
         (applied 𝓤 H A W) .lawful .typed (a .0) _ (are .0) .0 .0,
         (
           tt,
-          counts 𝓤 H 11 n (Left κs qs a are) (λ j. (9, j .state .last .v) ∷ (10, vint w64 (j .count)) ∷ []) (λ j. ⋆ 𝓤 H A (items-at 𝓤 H A 6 κs qs 0 ps a are (j .state .lists)))
-              (record { last = known (applied 𝓤 H A W) (a .0) (are .0); lists = first 𝓤 H A 6 κs qs 0 ps a are; made = all-none (a .0) ts₀ qs₀ ps₀ ls₀ ws₀ }) refl refl (λ j.
+          counts 𝓤 H 11 n (Left κs shs a are) (λ j. (9, j .state .last .v) ∷ (10, vint w64 (j .count)) ∷ []) (λ j. ⋆ 𝓤 H A (items-at 𝓤 H A 6 κs shs 0 params a are (j .state .lists)))
+              (record { last = known (applied 𝓤 H A W) (a .0) (are .0); lists = first 𝓤 H A 6 κs shs 0 params a are; made = all-none (a .0) ts₀ qs₀ ps₀ ls₀ ws₀ }) refl refl (λ j.
               let i : ℕ = j .count in
               let b : Known (applied 𝓤 H A W) = j .state .last in
               let ts₁ : List ThreadInfo = j .state .lists .0 .0 in
@@ -118,7 +119,7 @@ module _ {M : Type 1} (𝓤 : URA M) (H : Heap 𝓤) (A : Atoms 𝓤) (W : Given
                   (λ t.
                       let less : i < n = not-done j t in
                       -- let call = call_at(calls, i)
-                      let es = entries-at 𝓤 H A 6 κs qs 0 ps a are (j .state .lists) in
+                      let es = entries-at 𝓤 H A 6 κs shs 0 params a are (j .state .lists) in
                       let ss : List (Pass 𝓤 H A) = shown 0 ∷ value (known (word 𝓤 H A W) i (refl, count-small less (are .1 .1 .0 .1))) ∷ [] in
                       let xs = args 𝓤 H A es ss in
                       calls-with 𝓤 H A W es ss fm (asks (3 * i + 2 < length words) (reads words (pre .0) less)) (call 𝓤 H A W) (λ r ws. callMeant r ≡ callAt words i) (λ g. met .0 ((lfts xs g, shares xs, tt, denots 0 xs g, valss 0 xs g), tt)) refl tt (λ c l le c-is.
@@ -147,7 +148,7 @@ module _ {M : Type 1} (𝓤 : URA M) (H : Heap 𝓤) (A : Atoms 𝓤) (W : Given
                   (λ t. (
                     (applied 𝓤 H A W) .lawful .typed (b .x) _ (b .is) .0 .0,
                     (
-                      finish 𝓤 H A W ps (applied 𝓤 H A W) (f.clauses 𝓤 H A mem run) κs qs bounds a g are b (j .state .lists) (subst (λ (m : ℕ). AppliedAll (take m (callsOf words)) (a .0) (b .x) ts₀ ts₁ qs₀ qs₁ ps₀ ps₁ ls₀ ls₁ ws₀ ws₁) (all-done j t) (j .state .made)) refl,
+                      finish 𝓤 H A W params (applied 𝓤 H A W) (f.clauses 𝓤 H A mem run) κs shs bounds a g are b (j .state .lists) (subst (λ (m : ℕ). AppliedAll (take m (callsOf words)) (a .0) (b .x) (memory ts₀ qs₀ ps₀ ls₀ ws₀) (memory ts₁ qs₁ ps₁ ls₁ ws₁)) (all-done j t) (j .state .made)) refl,
                       tt,
                     ),
                   )),

@@ -18,6 +18,7 @@ use denote.Triple.Spec.{Meets, tripleOf}
 use denote.Triple.Table.{entered, cited}
 use Rattle.model.specs.declared.ThreadInfo.{ThreadInfo}
 use Rattle.model.specs.Calls.{ok}
+use Rattle.state.specs.Memory.{memory}
 use Rattle.state.specs.State.{Valid}
 use Rattle.checks.specs.Check.{checkMeant}
 use Rattle.new_plan.specs.Made.{NewDone}
@@ -59,8 +60,8 @@ length-read : {K : Type 2} → K → Unit {0} × K
 length-read k = (tt, k)
 
 module _ {M : Type 1} (𝓤 : URA M) (H : Heap 𝓤) (A : Atoms 𝓤) (W : Given 𝓤 H A) (mem : Memory → SProp 𝓤) (run : Routine → Fun 𝓤) where
-  abbrev ps : List (Param 𝓤 H A)
-  ps = by (config 𝓤 H A W) ∷ by (number 𝓤 H A W) ∷ by (capacities 𝓤 H A W) ∷ by (number 𝓤 H A W) ∷ shr u32 ∷ by (word 𝓤 H A W) ∷ mut T.the-row ∷ mut u32 ∷ mut u32 ∷ mut u64 ∷ mut u64 ∷ []
+  abbrev params : List (Param 𝓤 H A)
+  params = by (config 𝓤 H A W) ∷ by (number 𝓤 H A W) ∷ by (capacities 𝓤 H A W) ∷ by (number 𝓤 H A W) ∷ shr u32 ∷ by (word 𝓤 H A W) ∷ mut T.the-row ∷ mut u32 ∷ mut u32 ∷ mut u64 ∷ mut u64 ∷ []
 
   -- the theorem of each callee, at its entry of the table
   abbrev Callees : Calls 𝓤 H → Type 1
@@ -72,8 +73,8 @@ module _ {M : Type 1} (𝓤 : URA M) (H : Heap 𝓤) (A : Atoms 𝓤) (W : Given
       × Meets 𝓤 H A ending.signature (C ending-def.name) (ending.spec 𝓤 H A mem run)
 
   f-meets : (𝓣 : Tables 𝓤 H) → Callees (𝓣 .C) → Meets 𝓤 H A f.signature (WpFn 𝓤 H (𝓣 .C) (𝓣 .Λ) code.function) (f.spec 𝓤 H A mem run)
-  f-meets 𝓣 met = function-meets 𝓤 H A W ps (replayed 𝓤 H A W) (f.clauses 𝓤 H A mem run) 𝓣 code.function (λ κs a. Unit {0}) (λ κs a g. factI 𝓤 (Unit {0}) (emp 𝓤) tt) refl (λ κs. refl)
-      (λ κs qs bounds a g are pre blk.
+  f-meets 𝓣 met = function-meets 𝓤 H A W params (replayed 𝓤 H A W) (f.clauses 𝓤 H A mem run) 𝓣 code.function (λ κs a. Unit {0}) (λ κs a g. factI 𝓤 (Unit {0}) (emp 𝓤) tt) refl (λ κs. refl)
+      (λ κs shs bounds a g are pre blk.
       let fm = fmOf 𝓤 H (W .laws) 𝓣 in
       let c = known (config 𝓤 H A W) (a .0) (are .0) in
       let n = known (number 𝓤 H A W) (a .1 .0) (are .1 .0) in
@@ -86,11 +87,11 @@ module _ {M : Type 1} (𝓤 : URA M) (H : Heap 𝓤) (A : Atoms 𝓤) (W : Given
       let ps₀ : List ℕ = a .1 .1 .1 .1 .1 .1 .1 .1 .0 .now in
       let ls : List ℕ = a .1 .1 .1 .1 .1 .1 .1 .1 .1 .0 .now in
       let ws₀ : List ℕ = a .1 .1 .1 .1 .1 .1 .1 .1 .1 .1 .0 .now in
-      let es₀ = held 𝓤 H A W ps (replayed 𝓤 H A W) (f.clauses 𝓤 H A mem run) κs qs bounds a g are in
+      let es₀ = held 𝓤 H A W params (replayed 𝓤 H A W) (f.clauses 𝓤 H A mem run) κs shs bounds a g are in
       -- let created = new(config, cores, capacities, entry_pc, threads, queue, prios, log, lanes)
       let ss₀ : List (Pass 𝓤 H A) = value c ∷ value n ∷ value k ∷ value pc ∷ lent 1 ∷ shown 2 ∷ lent 3 ∷ lent 4 ∷ shown 5 ∷ [] in
       let xs₀ = args 𝓤 H A es₀ ss₀ in
-      calls-with 𝓤 H A W es₀ ss₀ fm free (created 𝓤 H A W) (λ r ws. NewDone (c .x) (n .x) (k .x) (pc .x) ts (ws .1 .1 .1 .1 .0) qs₀ ps₀ (ws .1 .1 .1 .1 .1 .1 .0) ls (ws .1 .1 .1 .1 .1 .1 .1 .0) ws₀ (r .sched) (r .answer))
+      calls-with 𝓤 H A W es₀ ss₀ fm free (created 𝓤 H A W) (λ r ws. NewDone (c .x) (n .x) (k .x) (pc .x) (memory ts qs₀ ps₀ ls ws₀) (memory (ws .1 .1 .1 .1 .0) qs₀ (ws .1 .1 .1 .1 .1 .1 .0) (ws .1 .1 .1 .1 .1 .1 .1 .0) ws₀) (r .sched) (r .answer))
       (λ g. met .0 ((lfts xs₀ g, shares xs₀, tt, denots 0 xs₀ g, valss 0 xs₀ g), tt)) refl tt (λ m l₀ le₀ new-done.
       let es₁ = left-by xs₀ l₀ le₀ es₀ in
       let ts₁ : List ThreadInfo = l₀ .1 .1 .1 .1 .0 in
@@ -110,8 +111,8 @@ module _ {M : Type 1} (𝓤 : URA M) (H : Heap 𝓤) (A : Atoms 𝓤) (W : Given
       let ss₃ : List (Pass 𝓤 H A) = value b ∷ shown 0 ∷ value d ∷ lent 1 ∷ lent 2 ∷ lent 3 ∷ lent 4 ∷ lent 5 ∷ [] in
       let xs₃ = args 𝓤 H A es₃ ss₃ in
       calls-with 𝓤 H A W es₃ ss₃ fm
-      (asks ((3 * d .x ≤ length words) × (0 < d .x → Valid (b .x .sched) ts₁ qs₀ ps₁ ls₁ ws₀)) (rw d-is (due-fits (checkMeant (m .x .answer)) (length words) (upto .x)), λ some. first-valid (c .x) (n .x) (k .x) (pc .x) (length words) (upto .x) ts ts₁ qs₀ ps₀ ps₁ ls ls₁ ws₀ (m .x) (b .x) new-done (b-is .0) (rw d-is at some)))
-      (applied 𝓤 H A W) (λ r ws. AppliedAll (take (d .x) (callsOf words)) (b .x) r ts₁ (ws .1 .1 .1 .0) qs₀ (ws .1 .1 .1 .1 .0) ps₁ (ws .1 .1 .1 .1 .1 .0) ls₁ (ws .1 .1 .1 .1 .1 .1 .0) ws₀ (ws .1 .1 .1 .1 .1 .1 .1 .0))
+      (asks ((3 * d .x ≤ length words) × (0 < d .x → Valid (b .x .sched) (memory ts₁ qs₀ ps₁ ls₁ ws₀))) (rw d-is (due-fits (checkMeant (m .x .answer)) (length words) (upto .x)), λ some. first-valid (c .x) (n .x) (k .x) (pc .x) (length words) (upto .x) ts ts₁ qs₀ ps₀ ps₁ ls ls₁ ws₀ (m .x) (b .x) new-done (b-is .0) (rw d-is at some)))
+      (applied 𝓤 H A W) (λ r ws. AppliedAll (take (d .x) (callsOf words)) (b .x) r (memory ts₁ qs₀ ps₁ ls₁ ws₀) (memory (ws .1 .1 .1 .0) (ws .1 .1 .1 .1 .0) (ws .1 .1 .1 .1 .1 .0) (ws .1 .1 .1 .1 .1 .1 .0) (ws .1 .1 .1 .1 .1 .1 .1 .0)))
       (λ g. met .3 ((lfts xs₃ g, shares xs₃, tt, denots 0 xs₃ g, valss 0 xs₃ g), tt)) refl tt (λ e l₃ le₃ all-applied.
       let es₄ = left-by xs₃ l₃ le₃ es₃ in
       let ts' : List ThreadInfo = l₃ .1 .1 .1 .0 in
@@ -123,7 +124,7 @@ module _ {M : Type 1} (𝓤 : URA M) (H : Heap 𝓤) (A : Atoms 𝓤) (W : Given
       let ss₄ : List (Pass 𝓤 H A) = value m ∷ value e ∷ [] in
       let xs₄ = args 𝓤 H A es₄ ss₄ in
       calls-with 𝓤 H A W es₄ ss₄ fm free (replayed 𝓤 H A W) (λ r ws. (r .made ≡ m .x .answer) × (r .sched ≡ e .x .sched) × (r .outcome ≡ e .x .outcome) × (r .switches ≡ e .x .switches)) (λ g. met .4 ((lfts xs₄ g, shares xs₄, tt, denots 0 xs₄ g, valss 0 xs₄ g), tt)) refl tt (λ r l₄ le₄ r-is. (
-        finish 𝓤 H A W ps (replayed 𝓤 H A W) (f.clauses 𝓤 H A mem run) κs qs bounds a g are r ((ts', le₃ .0), ((qs', le₃ .1 .0), ((ps', le₃ .1 .1 .0), ((ls', le₃ .1 .1 .1 .0), ((ws', le₃ .1 .1 .1 .1 .0), tt)))))
+        finish 𝓤 H A W params (replayed 𝓤 H A W) (f.clauses 𝓤 H A mem run) κs shs bounds a g are r ((ts', le₃ .0), ((qs', le₃ .1 .0), ((ps', le₃ .1 .1 .0), ((ls', le₃ .1 .1 .1 .0), ((ws', le₃ .1 .1 .1 .1 .0), tt)))))
             (replay-done (c .x) (n .x) (k .x) (pc .x) words (upto .x) ts ts₁ ts' qs₀ qs' ps₀ ps₁ ps' ls ls₁ ls' ws₀ ws' (m .x) (b .x) (e .x) (r .x) new-done b-is r-is (rw d-is at all-applied)) refl,
         tt,
       ))))))))

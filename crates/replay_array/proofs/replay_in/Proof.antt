@@ -40,11 +40,12 @@ use Rattle.replay.proofs.Types.{replayed}
 use Rattle.replay_array.proofs.replay_in.Key.{name as #replay-array·replay-in}
 use Rattle.replay_array.proofs.replay_in as f
 use Rattle.replay_array.proofs.replay_in.Statement as stated
+use Rattle.state.specs.Memory.{memory}
 use Rattle.replay_array.proofs.replay_in.Code as code
 
 -- `replay` returned y and left the records zs; `array_of` puts both together
 told : (c : SchedConfig) (n : ℕ) (k : Capacities) (pc : ℕ) (calls : List ℕ) (upto : ℕ) (ts zs : List ThreadInfo) (qs qs' ps ps' ls ls' ws ws' : List ℕ) (y : Replayed) (r : ReplayedArray) → r ≡ record { replayed = y; threads = zs }
-    → ReplayDone c n k pc calls upto ts zs qs qs' ps ps' ls ls' ws ws' y → ReplayDone c n k pc calls upto ts (r .threads) qs qs' ps ps' ls ls' ws ws' (r .replayed)
+    → ReplayDone c n k pc calls upto (memory ts qs ps ls ws) (memory zs qs' ps' ls' ws') y → ReplayDone c n k pc calls upto (memory ts qs ps ls ws) (memory (r .threads) qs' ps' ls' ws') (r .replayed)
 told c n k pc calls upto ts zs qs qs' ps ps' ls ls' ws ws' y r e d = rw e d
 
 module _ {M : Type 1} (𝓤 : URA M) (H : Heap 𝓤) (A : Atoms 𝓤) (W : Given 𝓤 H A) (mem : Memory → SProp 𝓤) (run : Routine → Fun 𝓤) where
@@ -81,7 +82,7 @@ module _ {M : Type 1} (𝓤 : URA M) (H : Heap 𝓤) (A : Atoms 𝓤) (W : Given
             (λ _ l le. entries-at 𝓤 H A 5 κs shs 0 params a are ((l .1 .1 .1 .1 .1 .1 .1 .0, le .1 .0), ((l .1 .1 .1 .1 .1 .1 .1 .1 .0, le .1 .1 .0), ((l .1 .1 .1 .1 .1 .1 .1 .1 .1 .0, le .1 .1 .1 .0), ((l .1 .1 .1 .1 .1 .1 .1 .1 .1 .1 .0, le .1 .1 .1 .1 .0), tt)))))
             (λ j. let xs = passed 𝓤 H A (records-in 𝓤 H A W (blk 12)) W ts _ (are .1 .1 .1 .1 .1 .1 .0) es ss j in
             asks-nothing 𝓤 H A W (𝓣 .C) fm replay-def.name xs (replayed 𝓤 H A W)
-            (λ r l. ReplayDone (c .x) (n .x) (k .x) (pc .x) calls (upto .x) ts (l .1 .1 .1 .1 .1 .1 .0) qs (l .1 .1 .1 .1 .1 .1 .1 .0) ps (l .1 .1 .1 .1 .1 .1 .1 .1 .0) ls (l .1 .1 .1 .1 .1 .1 .1 .1 .1 .0) ws (l .1 .1 .1 .1 .1 .1 .1 .1 .1 .1 .0) r)
+            (λ r l. ReplayDone (c .x) (n .x) (k .x) (pc .x) calls (upto .x) (memory ts qs ps ls ws) (memory (l .1 .1 .1 .1 .1 .1 .0) (l .1 .1 .1 .1 .1 .1 .1 .0) (l .1 .1 .1 .1 .1 .1 .1 .1 .0) (l .1 .1 .1 .1 .1 .1 .1 .1 .1 .0) (l .1 .1 .1 .1 .1 .1 .1 .1 .1 .1 .0)) r)
             (λ g. met .0 ((lfts xs g, shares xs, tt, denots 0 xs g, valss 0 xs g), tt))) tt refl (λ _. refl) (λ _. refl) (λ _. tt) (λ _ _ _. refl) refl refl (λ _ y l le is-done is.
             -- array_of(replayed, records)
             let zs : Known (records 𝓤 H A W) = record { x = l .1 .1 .1 .1 .1 .1 .0; v = array-value 𝓤 H A (records-in 𝓤 H A W (blk 12)) (l .1 .1 .1 .1 .1 .1 .0); is = is } in

@@ -25,6 +25,7 @@ use Rattle.model.specs.declared.Tid.{Tid}
 use Rattle.model.specs.Reading.{optionTidMeant, callAnswerMeant}
 use Rattle.model.specs.Calls as Calls
 use Rattle.state.specs.declared.Sched.{Sched}
+use Rattle.state.specs.Memory.{memory}
 use Rattle.state.specs.State.{Valid}
 use Rattle.state.specs.Done.{Done}
 use Rattle.switches.specs.Entries.{noSwitches}
@@ -97,7 +98,7 @@ use Rattle.sched.proofs.apply.Code as code
 
 -- what a call says that takes no lent memory
 abbrev Unlent : Calls.Call → Sched → Answered → Type 0
-Unlent c st r = (ts : List ThreadInfo) (qs ps ls ws : List ℕ) → Valid st ts qs ps ls ws → Done c (callAnswerMeant (r .answer)) st (r .sched) ts ts qs qs ps ps ls ls ws ws
+Unlent c st r = (ts : List ThreadInfo) (qs ps ls ws : List ℕ) → Valid st (memory ts qs ps ls ws) → Done c (callAnswerMeant (r .answer)) st (r .sched) (memory ts qs ps ls ws) (memory ts qs ps ls ws)
 
 -- an answer that is converted says the same
 said : (D : Calls.Answer → Sched → Type 0) (y z : Applied) → y ≡ z → (a : Calls.Answer) → a ≡ outcomeMeant (z .outcome) (z .switches) → D a (z .sched) → D (outcomeMeant (y .outcome) (y .switches)) (y .sched)
@@ -150,11 +151,11 @@ module _ {M : Type 1} (𝓤 : URA M) (H : Heap 𝓤) (A : Atoms 𝓤) (W : Given
 
     -- the call c leaves these lists, with an answer and a state
     abbrev LeftAs : Calls.Call → (ts' : List ThreadInfo) (qs' ps' ls' ws' : List ℕ) → Calls.Answer → Sched → Type 0
-    LeftAs c ts' qs' ps' ls' ws' a s' = Done c a st s' ts ts' qs qs' ps ps' ls ls' ws ws'
+    LeftAs c ts' qs' ps' ls' ws' a s' = Done c a st s' (memory ts qs ps ls ws) (memory ts' qs' ps' ls' ws')
 
     -- what the code asks where it is given the call c
     abbrev Arm : Call → Type 2
-    Arm c = (are : Sound 𝓤 H A 5 κs shs 0 params (st, (c, m))) → Valid st ts qs ps ls ws → code-asks 𝓤 H A W params (applied 𝓤 H A W) (f.clauses 𝓤 H A mem run) κs shs tt (st, (c, m)) tt are (𝓣 .C) code.function
+    Arm c = (are : Sound 𝓤 H A 5 κs shs 0 params (st, (c, m))) → Valid st (memory ts qs ps ls ws) → code-asks 𝓤 H A W params (applied 𝓤 H A W) (f.clauses 𝓤 H A mem run) κs shs tt (st, (c, m)) tt are (𝓣 .C) code.function
 
     spawn-arm : (parent : OptionTid) (pc : ℕ) → Arm (Cases.Spawn parent pc)
     spawn-arm parent pc are v blk =
@@ -329,7 +330,7 @@ module _ {M : Type 1} (𝓤 : URA M) (H : Heap 𝓤) (A : Atoms 𝓤) (W : Given
 
   f-meets : (𝓣 : Tables 𝓤 H) → Callees (𝓣 .C) → Meets 𝓤 H A f.signature (WpFn 𝓤 H (𝓣 .C) (𝓣 .Λ) code.function) (f.spec 𝓤 H A mem run)
   f-meets 𝓣 met = function-meets 𝓤 H A W params (applied 𝓤 H A W) (f.clauses 𝓤 H A mem run) 𝓣 code.function
-      (λ κs a. Valid (a .0) (a .1 .1 .0 .now) (a .1 .1 .1 .0 .now) (a .1 .1 .1 .1 .0 .now) (a .1 .1 .1 .1 .1 .0 .now) (a .1 .1 .1 .1 .1 .1 .0 .now)) (λ κs a g. id⊢ 𝓤 _) refl (λ κs. refl)
+      (λ κs a. Valid (a .0) (memory (a .1 .1 .0 .now) (a .1 .1 .1 .0 .now) (a .1 .1 .1 .1 .0 .now) (a .1 .1 .1 .1 .1 .0 .now) (a .1 .1 .1 .1 .1 .1 .0 .now))) (λ κs a g. id⊢ 𝓤 _) refl (λ κs. refl)
       (λ κs shs bounds a g are v. arms 𝓣 met κs shs (a .0) (a .1 .1) (a .1 .0) are v)
 
 pub apply-spec : {M : Type 1} → stated.statement M

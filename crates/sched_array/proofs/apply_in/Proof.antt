@@ -19,6 +19,7 @@ use denote.Triple.Table.{entered, cited}
 use Rattle.model.specs.declared.ThreadInfo.{ThreadInfo}
 use Rattle.model.specs.Calls.{Call, Answer}
 use Rattle.state.specs.declared.Sched.{Sched}
+use Rattle.state.specs.Memory.{memory}
 use Rattle.state.specs.State.{Valid}
 use Rattle.state.specs.Done.{Done}
 use Rattle.sched.specs.declared.Applied.{Applied}
@@ -44,8 +45,8 @@ use Rattle.sched_array.proofs.apply_in.Statement as stated
 use Rattle.sched_array.proofs.apply_in.Code as code
 
 -- `apply` returned y and left the records zs; `step_of` puts both together
-told : (st : Sched) (c : Call) (ts zs : List ThreadInfo) (qs qs' ps ps' ls ls' ws ws' : List ℕ) (y : Applied) (r : Stepped) → r ≡ record { applied = y; threads = zs } → Done c (outcomeMeant (y .outcome) (y .switches)) st (y .sched) ts zs qs qs' ps ps' ls ls' ws ws'
-    → Done c (outcomeMeant (r .applied .outcome) (r .applied .switches)) st (r .applied .sched) ts (r .threads) qs qs' ps ps' ls ls' ws ws'
+told : (st : Sched) (c : Call) (ts zs : List ThreadInfo) (qs qs' ps ps' ls ls' ws ws' : List ℕ) (y : Applied) (r : Stepped) → r ≡ record { applied = y; threads = zs } → Done c (outcomeMeant (y .outcome) (y .switches)) st (y .sched) (memory ts qs ps ls ws) (memory zs qs' ps' ls' ws')
+    → Done c (outcomeMeant (r .applied .outcome) (r .applied .switches)) st (r .applied .sched) (memory ts qs ps ls ws) (memory (r .threads) qs' ps' ls' ws')
 told st c ts zs qs qs' ps ps' ls ls' ws ws' y r e d = rw e d
 
 module _ {M : Type 1} (𝓤 : URA M) (H : Heap 𝓤) (A : Atoms 𝓤) (W : Given 𝓤 H A) (mem : Memory → SProp 𝓤) (run : Routine → Fun 𝓤) where
@@ -57,7 +58,7 @@ module _ {M : Type 1} (𝓤 : URA M) (H : Heap 𝓤) (A : Atoms 𝓤) (W : Given
 
   f-meets : (𝓣 : Tables 𝓤 H) → Callees (𝓣 .C) → Meets 𝓤 H A f.signature (WpFn 𝓤 H (𝓣 .C) (𝓣 .Λ) code.function) (f.spec 𝓤 H A mem run)
   f-meets 𝓣 met = function-meets 𝓤 H A W params (stepped 𝓤 H A W) (f.clauses 𝓤 H A mem run) 𝓣 code.function
-      (λ κs a. Valid (a .0) (a .1 .1 .0) (a .1 .1 .1 .0 .now) (a .1 .1 .1 .1 .0 .now) (a .1 .1 .1 .1 .1 .0 .now) (a .1 .1 .1 .1 .1 .1 .0 .now)) (λ κs a g. id⊢ 𝓤 _) refl (λ κs. refl)
+      (λ κs a. Valid (a .0) (memory (a .1 .1 .0) (a .1 .1 .1 .0 .now) (a .1 .1 .1 .1 .0 .now) (a .1 .1 .1 .1 .1 .0 .now) (a .1 .1 .1 .1 .1 .1 .0 .now))) (λ κs a g. id⊢ 𝓤 _) refl (λ κs. refl)
       (λ κs shs bounds a g are v blk.
       let fm = fmOf 𝓤 H (W .laws) 𝓣 in
       let es = held 𝓤 H A W params (stepped 𝓤 H A W) (f.clauses 𝓤 H A mem run) κs shs bounds a g are in

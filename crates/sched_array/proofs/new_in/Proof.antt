@@ -38,11 +38,12 @@ use Rattle.sched_array.proofs.Types.{started}
 use Rattle.sched_array.proofs.new_in.Key.{name as #sched-array·new-in}
 use Rattle.sched_array.proofs.new_in as f
 use Rattle.sched_array.proofs.new_in.Statement as stated
+use Rattle.state.specs.Memory.{memory}
 use Rattle.sched_array.proofs.new_in.Code as code
 
 -- `new` returned y and left the records zs; `start_of` puts both together
-told : (c : SchedConfig) (n : ℕ) (k : Capacities) (pc : ℕ) (ts zs : List ThreadInfo) (qs ps ps' ls ls' ws : List ℕ) (y : Created) (r : Started) → r ≡ record { created = y; threads = zs } → NewDone c n k pc ts zs qs ps ps' ls ls' ws (y .sched) (y .answer)
-    → NewDone c n k pc ts (r .threads) qs ps ps' ls ls' ws (r .created .sched) (r .created .answer)
+told : (c : SchedConfig) (n : ℕ) (k : Capacities) (pc : ℕ) (ts zs : List ThreadInfo) (qs ps ps' ls ls' ws : List ℕ) (y : Created) (r : Started) → r ≡ record { created = y; threads = zs } → NewDone c n k pc (memory ts qs ps ls ws) (memory zs qs ps' ls' ws) (y .sched) (y .answer)
+    → NewDone c n k pc (memory ts qs ps ls ws) (memory (r .threads) qs ps' ls' ws) (r .created .sched) (r .created .answer)
 told c n k pc ts zs qs ps ps' ls ls' ws y r e d = rw e d
 
 module _ {M : Type 1} (𝓤 : URA M) (H : Heap 𝓤) (A : Atoms 𝓤) (W : Given 𝓤 H A) (mem : Memory → SProp 𝓤) (run : Routine → Fun 𝓤) where
@@ -68,7 +69,7 @@ module _ {M : Type 1} (𝓤 : URA M) (H : Heap 𝓤) (A : Atoms 𝓤) (W : Given
         calls-lending 𝓤 H A (records-in 𝓤 H A W (blk 10)) W ts _ (are .1 .1 .1 .1 .0) es ss (false ∷ false ∷ false ∷ false ∷ false ∷ false ∷ false ∷ false ∷ false ∷ false ∷ true ∷ []) (λ _ l le. (l .1 .1 .1 .1 .0, le .0))
             (λ _ l le. entries-at 𝓤 H A 4 κs shs 0 params a are ((l .1 .1 .1 .1 .1 .1 .0, le .1 .0), ((l .1 .1 .1 .1 .1 .1 .1 .0, le .1 .1 .0), tt)))
             (λ k. let xs = passed 𝓤 H A (records-in 𝓤 H A W (blk 10)) W ts _ (are .1 .1 .1 .1 .0) es ss k in
-            asks-nothing 𝓤 H A W (𝓣 .C) fm new-def.name xs (created 𝓤 H A W) (λ r l. NewDone (a .0) (a .1 .0) (a .1 .1 .0) (a .1 .1 .1 .0) ts (l .1 .1 .1 .1 .0) qs ps (l .1 .1 .1 .1 .1 .1 .0) ls (l .1 .1 .1 .1 .1 .1 .1 .0) ws (r .sched) (r .answer))
+            asks-nothing 𝓤 H A W (𝓣 .C) fm new-def.name xs (created 𝓤 H A W) (λ r l. NewDone (a .0) (a .1 .0) (a .1 .1 .0) (a .1 .1 .1 .0) (memory ts qs ps ls ws) (memory (l .1 .1 .1 .1 .0) qs (l .1 .1 .1 .1 .1 .1 .0) (l .1 .1 .1 .1 .1 .1 .1 .0) ws) (r .sched) (r .answer))
             (λ g. met .0 ((lfts xs g, shares xs, tt, denots 0 xs g, valss 0 xs g), tt))) tt refl (λ _. refl) (λ _. refl) (λ _. tt) (λ _ _ _. refl) refl refl (λ _ y l le made is.
             -- start_of(created, records)
             let zs : Known (records 𝓤 H A W) = record { x = l .1 .1 .1 .1 .0; v = array-value 𝓤 H A (records-in 𝓤 H A W (blk 10)) (l .1 .1 .1 .1 .0); is = is } in

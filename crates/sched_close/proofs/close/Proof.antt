@@ -20,13 +20,12 @@ use Rattle.model.specs.declared.ThreadInfo.{ThreadInfo}
 use Rattle.model.specs.declared.CoreId.{CoreId}
 use Rattle.model.specs.declared.CoreState.{CoreState}
 use Rattle.model.specs.Reading.{callAnswerMeant}
-use Rattle.model.specs.Accounting.{chargeThreads}
 use Rattle.model.specs.Calls as Calls
-use Rattle.charges.specs.Charging.{coresMeant}
 use Rattle.state.specs.declared.Sched.{Sched}
+use Rattle.state.specs.Memory.{memory}
 use Rattle.state.specs.State.{statesOf, Valid}
 use Rattle.state.specs.Done.{Done}
-use Rattle.threads.specs.Slice.{threadsIn, Front, AllChargeable}
+use Rattle.threads.specs.Slice.{AllChargeable}
 use Rattle.sched_marks.specs.declared.Answered.{Answered}
 use Rattle.sched_exit.proofs.At.{Exited, exit-at}
 use Rattle.close_plan.specs.Close.{closeCore, chargedThreads, CloseFits, CloseFinished}
@@ -53,29 +52,26 @@ use Rattle.close_plan.proofs.close_finished.Met as finishing-thm
 use Rattle.walkkit.proofs.ByValue.{ByVal, known}
 use Rattle.walkkit.proofs.Loans.{Pass, value, lent, lfts, shares, denots, valss, args, left-by, asks, free, calls-with, calls-citing}
 use Rattle.walkkit.proofs.Law.{Param, by, mut, held, finish, function-meets}
+use Rattle.value_types.proofs.Records.{Charged}
 use Rattle.value_types.proofs.Types.{word, nothing, sched, coreId, coreStates, answered}
 use Rattle.sched_close.proofs.close.Key.{name as #sched-close·close}
 use Rattle.sched_close.proofs.close as f
 use Rattle.sched_close.proofs.close.Statement as stated
 use Rattle.sched_close.proofs.close.Code as code
 
--- what `charge_all` says
-abbrev Charged : List CoreState → (n : ℕ) (ts₁ ts' : List ThreadInfo) → Type 0
-Charged cs n ts₁ ts' = Front n (chargeThreads (coresMeant cs) 0 (threadsIn ts₁ n)) ts₁ ts'
-
 -- the chain of what the calls say
 module _ (st : Sched) (core : CoreId) (ys : List ThreadInfo) (qs ls ws : List ℕ) (on : CoreId) (on-is : on ≡ closeCore st (core .0)) (e : Answered) (ys₁ : List ThreadInfo) (qs₁ ls₁ : List ℕ) (exited : Exited st on e ys ys₁ qs qs₁ ls ls₁) where
-  exited-so : (ps : List ℕ) → Valid st ys qs ps ls ws → Done (Calls.exit (closeCore st (core .0) .0)) (callAnswerMeant (e .answer)) st (e .sched) ys ys₁ qs qs₁ ps ps ls ls₁ ws ws
-  exited-so ps v = subst (λ (o : CoreId). Done (Calls.exit (o .0)) (callAnswerMeant (e .answer)) st (e .sched) ys ys₁ qs qs₁ ps ps ls ls₁ ws ws) on-is (exited ps ws v)
+  exited-so : (ps : List ℕ) → Valid st (memory ys qs ps ls ws) → Done (Calls.exit (closeCore st (core .0) .0)) (callAnswerMeant (e .answer)) st (e .sched) (memory ys qs ps ls ws) (memory ys₁ qs₁ ps ls₁ ws)
+  exited-so ps v = subst (λ (o : CoreId). Done (Calls.exit (o .0)) (callAnswerMeant (e .answer)) st (e .sched) (memory ys qs ps ls ws) (memory ys₁ qs₁ ps ls₁ ws)) on-is (exited ps ws v)
 
-  charges : (ps : List ℕ) → Valid st ys qs ps ls ws → (n : ℕ) → n ≡ chargedThreads e → (n ≤ length ys₁) × AllChargeable n ys₁
+  charges : (ps : List ℕ) → Valid st (memory ys qs ps ls ws) → (n : ℕ) → n ≡ chargedThreads e → (n ≤ length ys₁) × AllChargeable n ys₁
   charges ps v n n-is = rw n-is (records-fit st ys qs ps ls ws v (core .0) e ys₁ qs₁ ls₁ (exited-so ps v))
 
-  finishes : (ps : List ℕ) → Valid st ys qs ps ls ws → CloseFits st (core .0) e ws
+  finishes : (ps : List ℕ) → Valid st (memory ys qs ps ls ws) → CloseFits st (core .0) e ws
   finishes ps v = close-fits st ys qs ps ls ws v (core .0) e ys₁ qs₁ ls₁ (exited-so ps v)
 
   told : (n : ℕ) (cs : List CoreState) → n ≡ chargedThreads e → cs ≡ statesOf (e .sched .states) → (ys' : List ThreadInfo) → Charged cs n ys₁ ys' → (r : Answered) (ws' : List ℕ) → CloseFinished st (core .0) e ws ws' (r .sched) (r .answer)
-      → (ps : List ℕ) → Valid st ys qs ps ls ws → Done (Calls.close (core .0)) (callAnswerMeant (r .answer)) st (r .sched) ys ys' qs qs₁ ps ps ls ls₁ ws ws'
+      → (ps : List ℕ) → Valid st (memory ys qs ps ls ws) → Done (Calls.close (core .0)) (callAnswerMeant (r .answer)) st (r .sched) (memory ys qs ps ls ws) (memory ys' qs₁ ps ls₁ ws')
   told n cs n-is cs-is ys' charged r ws' fin ps v = close-done st ys qs ps ls ws v (core .0) e ys₁ qs₁ ls₁ (exited-so ps v) ys' (rw cs-is at (rw n-is at charged)) (r .sched) (r .answer) ws' fin
 
 module _ {M : Type 1} (𝓤 : URA M) (H : Heap 𝓤) (A : Atoms 𝓤) (W : Given 𝓤 H A) (mem : Memory → SProp 𝓤) (run : Routine → Fun 𝓤) where
@@ -91,7 +87,7 @@ module _ {M : Type 1} (𝓤 : URA M) (H : Heap 𝓤) (A : Atoms 𝓤) (W : Given
 
   f-meets : (𝓣 : Tables 𝓤 H) → Callees (𝓣 .C) → Meets 𝓤 H A f.signature (WpFn 𝓤 H (𝓣 .C) (𝓣 .Λ) code.function) (f.spec 𝓤 H A mem run)
   f-meets 𝓣 met = function-meets 𝓤 H A W params (answered 𝓤 H A W) (f.clauses 𝓤 H A mem run) 𝓣 code.function
-      (λ κs a. (ps : List ℕ) × Valid (a .0) (a .1 .1 .0 .now) (a .1 .1 .1 .0 .now) ps (a .1 .1 .1 .1 .0 .now) (a .1 .1 .1 .1 .1 .0 .now)) (λ κs a g. id⊢ 𝓤 _) refl (λ κs. refl)
+      (λ κs a. (ps : List ℕ) × Valid (a .0) (memory (a .1 .1 .0 .now) (a .1 .1 .1 .0 .now) ps (a .1 .1 .1 .1 .0 .now) (a .1 .1 .1 .1 .1 .0 .now))) (λ κs a g. id⊢ 𝓤 _) refl (λ κs. refl)
       (λ κs shs bounds a g are pre blk.
       let fm = fmOf 𝓤 H (W .laws) 𝓣 in
       let s = known (sched 𝓤 H A W) (a .0) (are .0) in

@@ -27,6 +27,7 @@ use Rattle.model.specs.Reading.{optionTidMeant, switchAnswerMeant}
 use Rattle.state.specs.declared.Sched.{Sched}
 use Rattle.model.specs.declared.Tick.{Tick}
 use Rattle.model.specs.Calls
+use Rattle.state.specs.Memory.{memory}
 use Rattle.state.specs.State.{Valid}
 use Rattle.state.specs.Done.{Done}
 use Rattle.tick_plan.specs.declared.Ticked.{Ticked}
@@ -61,20 +62,20 @@ use Rattle.sched_force.proofs.force_switch.Code as code
 
 -- what `force_decided` says
 abbrev Pending : Sched → CoreId → OptionTid → Decided → (qs qs' ps ls ls' ws ws' : List ℕ) → Type 0
-Pending st core nm d qs qs' ps ls ls' ws ws' = (ts : List ThreadInfo) → Valid st ts qs ps ls ws → ForcePending (core .0) (optionTidMeant nm) (switchAnswerMeant (d .answer) (d .switches .entries) (d .switches .count)) st (d .sched) (d .moves) ts qs qs' ps ls ls' ws ws'
+Pending st core nm d qs qs' ps ls ls' ws ws' = (ts : List ThreadInfo) → Valid st (memory ts qs ps ls ws) → ForcePending (core .0) (optionTidMeant nm) (switchAnswerMeant (d .answer) (d .switches .entries) (d .switches .count)) st (d .sched) (d .moves) ts qs qs' ps ls ls' ws ws'
 
 -- the chain of what the calls say
-told : (st : Sched) (core : CoreId) (nm : OptionTid) (d : Decided) (r : Ticked) (n : ℕ) (t : Tick) (ys zs : List ThreadInfo) (qs qs' ps ls ls' ws ws' : List ℕ) → Valid st ys qs ps ls ws → Pending st core nm d qs qs' ps ls ls' ws ws'
+told : (st : Sched) (core : CoreId) (nm : OptionTid) (d : Decided) (r : Ticked) (n : ℕ) (t : Tick) (ys zs : List ThreadInfo) (qs qs' ps ls ls' ws ws' : List ℕ) → Valid st (memory ys qs ps ls ws) → Pending st core nm d qs qs' ps ls ls' ws ws'
     → n ≡ d .moves → t .0 ≡ st .now .0 → MovedRecords (t .0) ws' n ys zs → (r .sched ≡ d .sched) × (r .answer ≡ d .answer) × (r .switches ≡ d .switches)
-    → Done (Calls.force (core .0) (optionTidMeant nm)) (switchAnswerMeant (r .answer) (r .switches .entries) (r .switches .count)) st (r .sched) ys zs qs qs' ps ps ls ls' ws ws'
+    → Done (Calls.force (core .0) (optionTidMeant nm)) (switchAnswerMeant (r .answer) (r .switches .entries) (r .switches .count)) st (r .sched) (memory ys qs ps ls ws) (memory zs qs' ps ls' ws')
 told st core nm d r n t ys zs qs qs' ps ls ls' ws ws' v pending en et moved e = rw (e .0, e .1, e .2) (pending ys v .done zs (rw en at (rw et at moved)))
 
 module _ {M : Type 1} (𝓤 : URA M) (H : Heap 𝓤) (A : Atoms 𝓤) (W : Given 𝓤 H A) (mem : Memory → SProp 𝓤) (run : Routine → Fun 𝓤) where
   abbrev S : ByVal 𝓤 H A
   S = sched 𝓤 H A W
 
-  abbrev ps : List (Param 𝓤 H A)
-  ps = by S ∷ by (coreId 𝓤 H A W) ∷ by (optionTid 𝓤 H A W) ∷ mut T.the-row ∷ mut u32 ∷ shr u32 ∷ mut u64 ∷ mut u64 ∷ []
+  abbrev params : List (Param 𝓤 H A)
+  params = by S ∷ by (coreId 𝓤 H A W) ∷ by (optionTid 𝓤 H A W) ∷ mut T.the-row ∷ mut u32 ∷ shr u32 ∷ mut u64 ∷ mut u64 ∷ []
 
   -- the theorem of each callee, at its entry of the table
   abbrev Callees : Calls 𝓤 H → Type 1
@@ -83,18 +84,18 @@ module _ {M : Type 1} (𝓤 : URA M) (H : Heap 𝓤) (A : Atoms 𝓤) (W : Given
       × Meets 𝓤 H A apply.signature (C apply-def.name) (apply.spec 𝓤 H A mem run) × Meets 𝓤 H A answer.signature (C answer-def.name) (answer.spec 𝓤 H A mem run)
 
   f-meets : (𝓣 : Tables 𝓤 H) → Callees (𝓣 .C) → Meets 𝓤 H A f.signature (WpFn 𝓤 H (𝓣 .C) (𝓣 .Λ) code.function) (f.spec 𝓤 H A mem run)
-  f-meets 𝓣 met = function-meets 𝓤 H A W ps (ticked 𝓤 H A W) (f.clauses 𝓤 H A mem run) 𝓣 code.function
-      (λ κs a. Valid (a .0) (a .1 .1 .1 .0 .now) (a .1 .1 .1 .1 .0 .now) (a .1 .1 .1 .1 .1 .0 .now) (a .1 .1 .1 .1 .1 .1 .0 .now) (a .1 .1 .1 .1 .1 .1 .1 .0 .now)) (λ κs a g. id⊢ 𝓤 _) refl (λ κs. refl)
-      (λ κs qs bounds a g are v blk.
+  f-meets 𝓣 met = function-meets 𝓤 H A W params (ticked 𝓤 H A W) (f.clauses 𝓤 H A mem run) 𝓣 code.function
+      (λ κs a. Valid (a .0) (memory (a .1 .1 .1 .0 .now) (a .1 .1 .1 .1 .0 .now) (a .1 .1 .1 .1 .1 .0 .now) (a .1 .1 .1 .1 .1 .1 .0 .now) (a .1 .1 .1 .1 .1 .1 .1 .0 .now))) (λ κs a g. id⊢ 𝓤 _) refl (λ κs. refl)
+      (λ κs shs bounds a g are v blk.
       let fm = fmOf 𝓤 H (W .laws) 𝓣 in
       let s = known S (a .0) (are .0) in
       let ys : List ThreadInfo = a .1 .1 .1 .0 .now in
       -- let d = force_decided(s, core, named, queue, prios, log, lanes)
-      let es = held 𝓤 H A W ps (ticked 𝓤 H A W) (f.clauses 𝓤 H A mem run) κs qs bounds a g are in
+      let es = held 𝓤 H A W params (ticked 𝓤 H A W) (f.clauses 𝓤 H A mem run) κs shs bounds a g are in
       let ss : List (Pass 𝓤 H A) = value s ∷ value (known (coreId 𝓤 H A W) (a .1 .0) (are .1 .0)) ∷ value (known (optionTid 𝓤 H A W) (a .1 .1 .0) (are .1 .1 .0)) ∷ lent 1 ∷ shown 2 ∷ lent 3 ∷ lent 4 ∷ [] in
       let xs = args 𝓤 H A es ss in
       calls-with 𝓤 H A W es ss fm
-      (asks ((ts : List ThreadInfo) × Valid (a .0) ts (a .1 .1 .1 .1 .0 .now) (a .1 .1 .1 .1 .1 .0 .now) (a .1 .1 .1 .1 .1 .1 .0 .now) (a .1 .1 .1 .1 .1 .1 .1 .0 .now)) (ys, v)) (decided 𝓤 H A W)
+      (asks ((ts : List ThreadInfo) × Valid (a .0) (memory ts (a .1 .1 .1 .1 .0 .now) (a .1 .1 .1 .1 .1 .0 .now) (a .1 .1 .1 .1 .1 .1 .0 .now) (a .1 .1 .1 .1 .1 .1 .1 .0 .now))) (ys, v)) (decided 𝓤 H A W)
       (λ r ws. Pending (a .0) (a .1 .0) (a .1 .1 .0) r (a .1 .1 .1 .1 .0 .now) (ws .1 .1 .1 .0) (a .1 .1 .1 .1 .1 .0 .now) (a .1 .1 .1 .1 .1 .1 .0 .now) (ws .1 .1 .1 .1 .1 .0) (a .1 .1 .1 .1 .1 .1 .1 .0 .now) (ws .1 .1 .1 .1 .1 .1 .0))
       (λ g. met .0 ((lfts xs g, shares xs, tt, denots 0 xs g, valss 0 xs g), tt)) refl tt (λ d l le pending.
       let ls' : List ℕ = l .1 .1 .1 .1 .1 .0 in
@@ -119,7 +120,7 @@ module _ {M : Type 1} (𝓤 : URA M) (H : Heap 𝓤) (A : Atoms 𝓤) (W : Given
       let ss₄ : List (Pass 𝓤 H A) = value d ∷ [] in
       let xs₄ = args 𝓤 H A es₄ ss₄ in
       calls-with 𝓤 H A W es₄ ss₄ fm free (ticked 𝓤 H A W) (λ r ws. (r .sched ≡ d .x .sched) × (r .answer ≡ d .x .answer) × (r .switches ≡ d .x .switches)) (λ g. met .4 ((lfts xs₄ g, shares xs₄, tt, denots 0 xs₄ g, valss 0 xs₄ g), tt)) refl tt (λ r l₄ le₄ r-is. (
-        finish 𝓤 H A W ps (ticked 𝓤 H A W) (f.clauses 𝓤 H A mem run) κs qs bounds a g are r ((l₃ .0, le₃ .0), ((l .1 .1 .1 .0, le .0), ((ls', le .1 .0), ((ws', le .1 .1 .0), tt))))
+        finish 𝓤 H A W params (ticked 𝓤 H A W) (f.clauses 𝓤 H A mem run) κs shs bounds a g are r ((l₃ .0, le₃ .0), ((l .1 .1 .1 .0, le .0), ((ls', le .1 .0), ((ws', le .1 .1 .0), tt))))
             (told (a .0) (a .1 .0) (a .1 .1 .0) (d .x) (r .x) (n .x) (t .x) ys (l₃ .0) (a .1 .1 .1 .1 .0 .now) (l .1 .1 .1 .0) (a .1 .1 .1 .1 .1 .0 .now) (a .1 .1 .1 .1 .1 .1 .0 .now) ls' (a .1 .1 .1 .1 .1 .1 .1 .0 .now) ws' v pending n-is t-is moved r-is) refl,
         tt,
       )))))))

@@ -60,8 +60,8 @@ module _ {M : Type 1} (𝓤 : URA M) (H : Heap 𝓤) (A : Atoms 𝓤) (W : Given
   abbrev answer : ByVal 𝓤 H A
   answer = enum-by 𝓤 H A W G.the-type G′.the-laws G′.the-plain tt (λ x. tt) (λ x f. refl)
 
-  abbrev ps : List (Param 𝓤 H A)
-  ps = by (config 𝓤 H A W) ∷ by (number 𝓤 H A W) ∷ by (capacities 𝓤 H A W) ∷ by (number 𝓤 H A W) ∷ mut T.the-row ∷ shr u32 ∷ mut u32 ∷ mut u64 ∷ shr u64 ∷ []
+  abbrev params : List (Param 𝓤 H A)
+  params = by (config 𝓤 H A W) ∷ by (number 𝓤 H A W) ∷ by (capacities 𝓤 H A W) ∷ by (number 𝓤 H A W) ∷ mut T.the-row ∷ shr u32 ∷ mut u32 ∷ mut u64 ∷ shr u64 ∷ []
 
   -- the theorem of each callee, at its entry of the table
   abbrev Callees : Calls 𝓤 H → Type 1
@@ -73,8 +73,8 @@ module _ {M : Type 1} (𝓤 : URA M) (H : Heap 𝓤) (A : Atoms 𝓤) (W : Given
       × Meets 𝓤 H A finishing.signature (C finishing-def.name) (finishing.spec 𝓤 H A mem run)
 
   f-meets : (𝓣 : Tables 𝓤 H) → Callees (𝓣 .C) → Meets 𝓤 H A f.signature (WpFn 𝓤 H (𝓣 .C) (𝓣 .Λ) code.function) (f.spec 𝓤 H A mem run)
-  f-meets 𝓣 met = function-meets 𝓤 H A W ps (created 𝓤 H A W) (f.clauses 𝓤 H A mem run) 𝓣 code.function (λ κs a. Unit {0}) (λ κs a g. factI 𝓤 (Unit {0}) (emp 𝓤) tt) refl (λ κs. refl)
-      (λ κs qs bounds a g are pre blk.
+  f-meets 𝓣 met = function-meets 𝓤 H A W params (created 𝓤 H A W) (f.clauses 𝓤 H A mem run) 𝓣 code.function (λ κs a. Unit {0}) (λ κs a g. factI 𝓤 (Unit {0}) (emp 𝓤) tt) refl (λ κs. refl)
+      (λ κs shs bounds a g are pre blk.
       let fm = fmOf 𝓤 H (W .laws) 𝓣 in
       let c = known (config 𝓤 H A W) (a .0) (are .0) in
       let n = known (number 𝓤 H A W) (a .1 .0) (are .1 .0) in
@@ -85,7 +85,7 @@ module _ {M : Type 1} (𝓤 : URA M) (H : Heap 𝓤) (A : Atoms 𝓤) (W : Given
       let ps₀ : List ℕ = a .1 .1 .1 .1 .1 .1 .0 .now in
       let ls : List ℕ = a .1 .1 .1 .1 .1 .1 .1 .0 .now in
       let ws₀ : List ℕ = a .1 .1 .1 .1 .1 .1 .1 .1 .0 .now in
-      let es₀ = held 𝓤 H A W ps (created 𝓤 H A W) (f.clauses 𝓤 H A mem run) κs qs bounds a g are in
+      let es₀ = held 𝓤 H A W params (created 𝓤 H A W) (f.clauses 𝓤 H A mem run) κs shs bounds a g are in
       -- let answer = check_new(config, cores, capacities, threads.len(), queue.len(), prios.len(), log.len(), lanes.len())
       let ys-len = known (word 𝓤 H A W) (length ys) (refl, are .1 .1 .1 .1 .0 .0) in
       let qs-len = known (word 𝓤 H A W) (length qs₀) (refl, are .1 .1 .1 .1 .1 .0 .0) in
@@ -117,7 +117,7 @@ module _ {M : Type 1} (𝓤 : URA M) (H : Heap 𝓤) (A : Atoms 𝓤) (W : Given
       let xs₄ = args 𝓤 H A es₄ ss₄ in
       calls-with 𝓤 H A W es₄ ss₄ fm (asks (CreateFit (k .x) (checkMeant (r .x)) ps₀ ls) (create-fits (c .x) (n .x) (k .x) (pc .x) ys qs₀ ps₀ ls ws₀ (checkMeant (r .x)) checked)) (created 𝓤 H A W)
       (λ z ws. CreatedAs (c .x) (n .x) (k .x) (r .x) ps₀ (ws .1 .1 .1 .1 .0) ls (ws .1 .1 .1 .1 .1 .0) (z .sched) (z .answer)) (λ g. met .4 ((lfts xs₄ g, shares xs₄, tt, denots 0 xs₄ g, valss 0 xs₄ g), tt)) refl tt (λ z l₄ le₄ made. (
-        finish 𝓤 H A W ps (created 𝓤 H A W) (f.clauses 𝓤 H A mem run) κs qs bounds a g are z ((l₃ .0, le₃ .0), ((l₄ .1 .1 .1 .1 .0, le₄ .0), ((l₄ .1 .1 .1 .1 .1 .0, le₄ .1 .0), tt)))
+        finish 𝓤 H A W params (created 𝓤 H A W) (f.clauses 𝓤 H A mem run) κs shs bounds a g are z ((l₃ .0, le₃ .0), ((l₄ .1 .1 .1 .1 .0, le₄ .0), ((l₄ .1 .1 .1 .1 .1 .0, le₄ .1 .0), tt)))
             (new-done (c .x) (n .x) (k .x) (pc .x) ys qs₀ ps₀ ls ws₀ (r .x) checked (t .x) first (l₃ .0) (rw m-is at set) (l₄ .1 .1 .1 .1 .0) (l₄ .1 .1 .1 .1 .1 .0) (z .x .sched) (z .x .answer) made) refl,
         tt,
       ))))))))

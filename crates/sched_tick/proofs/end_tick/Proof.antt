@@ -20,13 +20,12 @@ use Rattle.model.specs.declared.ThreadInfo.{ThreadInfo}
 use Rattle.model.specs.declared.CoreState.{CoreState}
 use Rattle.model.specs.declared.Tick.{Tick}
 use Rattle.model.specs.Reading.{switchAnswerMeant}
-use Rattle.model.specs.Accounting.{chargeThreads}
 use Rattle.model.specs.Calls
-use Rattle.charges.specs.Charging.{coresMeant}
 use Rattle.state.specs.declared.Sched.{Sched}
+use Rattle.state.specs.Memory.{memory}
 use Rattle.state.specs.State.{statesOf, Valid}
 use Rattle.state.specs.Done.{Done}
-use Rattle.threads.specs.Slice.{threadsIn, Front, AllChargeable, MovesFit}
+use Rattle.threads.specs.Slice.{AllChargeable, MovesFit}
 use Rattle.tick_plan.specs.declared.Decided.{Decided}
 use Rattle.tick_plan.specs.declared.Ticked.{Ticked}
 use Rattle.tick_plan.specs.Plan.{tickThreads, ChargedRecords, MovedRecords, TickPending}
@@ -59,6 +58,7 @@ use Rattle.tick_plan.proofs.tick.ticked.Met as answer-thm
 use Rattle.walkkit.proofs.ByValue.{ByVal, known}
 use Rattle.walkkit.proofs.Loans.{Pass, value, lent, shown, lfts, shares, denots, valss, args, left-by, asks, free, calls-with}
 use Rattle.walkkit.proofs.Law.{Param, by, mut, shr, held, finish, function-meets}
+use Rattle.value_types.proofs.Records.{Charged}
 use Rattle.value_types.proofs.Types.{word, nothing, sched, tick, coreStates, decided, ticked}
 use Rattle.sched_tick.proofs.end_tick.Key.{name as #sched-tick·end-tick}
 use Rattle.sched_tick.proofs.end_tick as f
@@ -67,14 +67,10 @@ use Rattle.sched_tick.proofs.end_tick.Code as code
 
 -- what `tick_decided` says
 abbrev Pending : Sched → Decided → (qs qs' ps ls ls' ws ws' : List ℕ) → Type 0
-Pending st d qs qs' ps ls ls' ws ws' = (ts : List ThreadInfo) → Valid st ts qs ps ls ws → TickPending (switchAnswerMeant (d .answer) (d .switches .entries) (d .switches .count)) st (d .sched) (d .moves) ts qs qs' ps ls ls' ws ws'
-
--- what `charge_all` says
-abbrev Charged : List CoreState → (n : ℕ) (ts ts₁ : List ThreadInfo) → Type 0
-Charged cs n ts ts₁ = Front n (chargeThreads (coresMeant cs) 0 (threadsIn ts n)) ts ts₁
+Pending st d qs qs' ps ls ls' ws ws' = (ts : List ThreadInfo) → Valid st (memory ts qs ps ls ws) → TickPending (switchAnswerMeant (d .answer) (d .switches .entries) (d .switches .count)) st (d .sched) (d .moves) ts qs qs' ps ls ls' ws ws'
 
 -- the chain of what the calls say
-module _ (st : Sched) (ys : List ThreadInfo) (qs ps ls ws : List ℕ) (v : Valid st ys qs ps ls ws) (n : ℕ) (cs : List CoreState) (n-is : n ≡ tickThreads st) (cs-is : cs ≡ statesOf (st .states)) where
+module _ (st : Sched) (ys : List ThreadInfo) (qs ps ls ws : List ℕ) (v : Valid st (memory ys qs ps ls ws)) (n : ℕ) (cs : List CoreState) (n-is : n ≡ tickThreads st) (cs-is : cs ≡ statesOf (st .states)) where
   charges : (n ≤ length ys) × AllChargeable n ys
   charges = rw n-is (charge-all-fits st ys qs ps ls ws v)
 
@@ -86,7 +82,7 @@ module _ (st : Sched) (ys : List ThreadInfo) (qs ps ls ws : List ℕ) (v : Valid
     moves-fit = rw m-is (pending ys v .fits ys₁ charged-so)
 
     told : (t : Tick) → t .0 ≡ st .now .0 + 1 → (ys' : List ThreadInfo) → MovedRecords (t .0) ws' m ys₁ ys' → (r : Ticked) → (r .sched ≡ d .sched) × (r .answer ≡ d .answer) × (r .switches ≡ d .switches)
-        → Done Calls.tick (switchAnswerMeant (r .answer) (r .switches .entries) (r .switches .count)) st (r .sched) ys ys' qs qs' ps ps ls ls' ws ws'
+        → Done Calls.tick (switchAnswerMeant (r .answer) (r .switches .entries) (r .switches .count)) st (r .sched) (memory ys qs ps ls ws) (memory ys' qs' ps ls' ws')
     told t t-is ys' moved r e = rw (e .0, e .1, e .2) (pending ys v .done ys₁ ys' charged-so (rw m-is at (rw t-is at moved)))
 
 module _ {M : Type 1} (𝓤 : URA M) (H : Heap 𝓤) (A : Atoms 𝓤) (W : Given 𝓤 H A) (mem : Memory → SProp 𝓤) (run : Routine → Fun 𝓤) where
@@ -103,7 +99,7 @@ module _ {M : Type 1} (𝓤 : URA M) (H : Heap 𝓤) (A : Atoms 𝓤) (W : Given
 
   f-meets : (𝓣 : Tables 𝓤 H) → Callees (𝓣 .C) → Meets 𝓤 H A f.signature (WpFn 𝓤 H (𝓣 .C) (𝓣 .Λ) code.function) (f.spec 𝓤 H A mem run)
   f-meets 𝓣 met = function-meets 𝓤 H A W params (ticked 𝓤 H A W) (f.clauses 𝓤 H A mem run) 𝓣 code.function
-      (λ κs a. Valid (a .0) (a .1 .0 .now) (a .1 .1 .0 .now) (a .1 .1 .1 .0 .now) (a .1 .1 .1 .1 .0 .now) (a .1 .1 .1 .1 .1 .0 .now)) (λ κs a g. id⊢ 𝓤 _) refl (λ κs. refl)
+      (λ κs a. Valid (a .0) (memory (a .1 .0 .now) (a .1 .1 .0 .now) (a .1 .1 .1 .0 .now) (a .1 .1 .1 .1 .0 .now) (a .1 .1 .1 .1 .1 .0 .now))) (λ κs a g. id⊢ 𝓤 _) refl (λ κs. refl)
       (λ κs shs bounds a g are v blk.
       let fm = fmOf 𝓤 H (W .laws) 𝓣 in
       let s = known (sched 𝓤 H A W) (a .0) (are .0) in
@@ -132,7 +128,7 @@ module _ {M : Type 1} (𝓤 : URA M) (H : Heap 𝓤) (A : Atoms 𝓤) (W : Given
       let es₃ = left-by xs₂ l₂ le₂ es₂ in
       let ss₃ : List (Pass 𝓤 H A) = value s ∷ lent 1 ∷ shown 2 ∷ lent 3 ∷ lent 4 ∷ [] in
       let xs₃ = args 𝓤 H A es₃ ss₃ in
-      calls-with 𝓤 H A W es₃ ss₃ fm (asks ((ts : List ThreadInfo) × Valid (a .0) ts qs ps ls ws) (ys, v)) (decided 𝓤 H A W)
+      calls-with 𝓤 H A W es₃ ss₃ fm (asks ((ts : List ThreadInfo) × Valid (a .0) (memory ts qs ps ls ws)) (ys, v)) (decided 𝓤 H A W)
       (λ r ts. Pending (a .0) r qs (ts .1 .0) ps ls (ts .1 .1 .1 .0) ws (ts .1 .1 .1 .1 .0)) (λ g. met .3 ((lfts xs₃ g, shares xs₃, tt, denots 0 xs₃ g, valss 0 xs₃ g), tt)) refl tt (λ d l₃ le₃ pending.
       let qs' : List ℕ = l₃ .1 .0 in
       let ls' : List ℕ = l₃ .1 .1 .1 .0 in

@@ -1,6 +1,6 @@
 use native.Mathlib.Omega.{arith}
 use mathlib.Core.Path.{refl}
-use Rattle.state.specs.State.{meant}
+use Rattle.state.specs.State.{meantAt}
 use Rattle.summary.proofs.Totaling.{core-small, cores-few, totals-small, tick-small, switches-small, sums-are, cores-small}
 use Rattle.summary.proofs.sums_of.Statement.{statement}
 use Rattle.summary.proofs.sums_of.Tie as tie
@@ -9,7 +9,7 @@ core-totals-requires : tie.Need-core-totals-requires
 core-totals-requires c κs = let k = c .before .before .pre in (cores-few _ _ _ _ _ _ _ (k .5), core-small _ _ _ _ _ _ _ (k .5))
 
 returns : tie.Need-returns
-unfolding meant
+unfolding meantAt
 returns c =
     let a = c .before .before .before .args in
     let k = c .before .before .before .pre .5 in

@@ -3,12 +3,13 @@ use native.Mathlib.Omega.{arith}
 use Prim.Native.Nat.{_≤_, _-_}
 use mathlib.Core.Path.{_≡_}
 use lib.ListN.{length}
+use Rattle.state.specs.Memory.{memory}
 use Rattle.state.specs.State.{Valid}
 use Rattle.trace.proofs.run.Statement.{statement}
 use Rattle.trace.proofs.run.Tie as tie
 
 abbrev Inv-loop : tie.InvT-loop
-Inv-loop n queue₀ prios₀ log₀ lanes₀ s₀ threads₀ i₀ queue prios log lanes s threads i = (i ≤ n) × (length queue ≡ length queue₀) × (length prios ≡ length prios₀) × (length log ≡ length log₀) × (length lanes ≡ length lanes₀) × Valid s threads queue prios log lanes
+Inv-loop n queue₀ prios₀ log₀ lanes₀ s₀ threads₀ i₀ queue prios log lanes s threads i = (i ≤ n) × (length queue ≡ length queue₀) × (length prios ≡ length prios₀) × (length log ≡ length log₀) × (length lanes ≡ length lanes₀) × Valid s (memory threads queue prios log lanes)
 
 abbrev μ-loop : tie.MeasureT-loop
 μ-loop n queue₀ prios₀ log₀ lanes₀ s₀ threads₀ i₀ queue prios log lanes s threads i = n - i

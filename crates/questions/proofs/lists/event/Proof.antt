@@ -2,7 +2,7 @@ use borrow.Author.Needs.{needs}
 use native.Mathlib.Omega.{arith}
 use mathlib.Core.Path.{sym}
 use lib.Seq.{length-take-le}
-use Rattle.state.specs.State.{meant}
+use Rattle.state.specs.State.{meantAt}
 use Rattle.questions.proofs.lists.event.Statement.{statement}
 use Rattle.questions.proofs.lists.event.Tie as tie
 use Rattle.questions.proofs.lists.event.Reads as reads
@@ -19,7 +19,7 @@ event-at-requires : tie.Need-event-at-requires
 event-at-requires c κs = search needs
 
 returns : tie.Need-returns
-unfolding meant
+unfolding meantAt
 returns c = λ ts qs ws. c .event-at .ensures
 
 pub event-spec : {M : Type 1} → statement M

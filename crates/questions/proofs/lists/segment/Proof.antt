@@ -8,7 +8,7 @@ use lib.ListN.{take, drop, getD, getElem?}
 use Rattle.model.specs.Types.{Segment}
 use Rattle.rings.specs.Ring.{RingOK}
 use Rattle.rings.specs.Timeline.{segmentsIn}
-use Rattle.state.specs.State.{meant, noPos}
+use Rattle.state.specs.State.{meantAt, noPos}
 use Rattle.questions.proofs.CoreLaws.{timeline-at, lane-end, width-is}
 use Rattle.questions.proofs.lists.segment.Statement.{statement}
 use Rattle.questions.proofs.lists.segment.Tie as tie
@@ -20,7 +20,7 @@ cast-i : tie.Need-cast-i
 cast-i c = search needs
 
 mul-words : tie.Need-mul-words
-unfolding meant
+unfolding meantAt
 mul-words c = omega (arith, c .before .before .before .before .pre .2 .4 .bounded .settings .capS′)
 
 mul-start : tie.Need-mul-start
