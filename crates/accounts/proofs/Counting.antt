@@ -10,12 +10,11 @@ use borrow.Author.Count.{below-more}
 use lib.ListN.{length, take, getD, set}
 use lib.Seq.{take-suc, getD-set-same, getD-set-other}
 use Rattle.model.specs.Types.{Move, starts, leaves, takes}
-use Rattle.model.specs.Accounting.{chargeCore}
+use Rattle.model.specs.Accounting.{chargeCore, takesIn}
 use Rattle.model.specs.Reading.{coreStateMeant, coreTicksMeant}
 use Rattle.model.specs.declared.CoreState as Program
 use Rattle.model.specs.declared.CoreState.the-variants as CoreStateCases
 use Rattle.model.specs.declared.CoreTicks as Counters
-use Rattle.model.proofs.Bounded.{takesIn}
 use Rattle.queue.specs.Words.{moveOf, decode, movesIn}
 use Rattle.state.specs.State.{noTicks}
 use Rattle.accounts.specs.Charging.{TickCharged, TicksCharged}

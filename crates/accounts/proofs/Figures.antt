@@ -8,6 +8,7 @@ use native.Mathlib.Omega.{arith}
 use borrow.Author.Count.{below-none, below-more}
 use lib.ListN.{length, getD, length-append}
 use lib.Seq.{length-take-le}
+use Rattle.model.specs.Invariants.{All, TicksIn}
 use Rattle.model.specs.Types.{CoreState, Core, CoreTicks, Segment, Move, starts, leaves, takes, Accounts}
 use Rattle.model.specs.Accounting.{newest, grown, laneOf, chargeCore, charge, applyMove, applyMoves, logged}
 use Rattle.model.specs.Calls.{limitNow, wake}
@@ -15,7 +16,6 @@ use Rattle.model.specs.Reading.{coreStateMeant, coreTicksMeant}
 use Rattle.model.specs.declared.CoreState as Program
 use Rattle.model.specs.declared.CoreState.the-variants as CoreStateCases
 use Rattle.model.specs.declared.CoreTicks as Counters
-use Rattle.model.proofs.Bounded.{AllL, TicksIn}
 use Rattle.ticks.specs.Room.{TicksRoom}
 use Rattle.rings.specs.declared.RingPos.{RingPos}
 use Rattle.rings.specs.Ring.{capacity}
@@ -40,12 +40,12 @@ module _ {A : Type 0} where
   firsts-same g h (suc n) e = rw (firsts-same g h n (λ i l. e i (omega arith)), e n (omega arith))
 
 module _ {A : Type 0} (P : A → Type 0) where
-  all-front : (xs : List A) (y : A) → AllL P (xs ++ (y ∷ [])) → AllL P xs × P y
+  all-front : (xs : List A) (y : A) → All P (xs ++ (y ∷ [])) → All P xs × P y
   all-front [] y a = (tt, a .0)
   all-front (x ∷ xs) y a = let r = all-front xs y (a .1) in ((a .0, r .0), r .1)
 
   -- what holds of a list of first values holds of each of them
-  pub firsts-all : (g : ℕ → A) (n : ℕ) → AllL P (firsts g n) → (i : ℕ) → i < n → P (g i)
+  pub firsts-all : (g : ℕ → A) (n : ℕ) → All P (firsts g n) → (i : ℕ) → i < n → P (g i)
   unfolding firsts
   firsts-all g zero a = below-none (λ i. P (g i))
   firsts-all g (suc n) a =
@@ -70,7 +70,7 @@ module _ {A B C : Type 0} (f : A → B → C) where
 ---- what `charge_ticks` asks: the counters of a core add up to the ticks so far
 
 pub ticks-room :
-    (n now : ℕ) (ticks : List Counters.CoreTicks) → now ≤ limitNow → AllL (TicksIn now) (firsts (λ i. coreTicksMeant (getD ticks i noTicks)) n) → (i : ℕ) → i < n → TicksRoom (getD ticks i noTicks)
+    (n now : ℕ) (ticks : List Counters.CoreTicks) → now ≤ limitNow → All (TicksIn now) (firsts (λ i. coreTicksMeant (getD ticks i noTicks)) n) → (i : ℕ) → i < n → TicksRoom (getD ticks i noTicks)
 unfolding limitNow
 ticks-room n now ticks h a i l =
     let e : getD ticks i noTicks .busy + getD ticks i noTicks .switching + getD ticks i noTicks .idle ≡ now = firsts-all (TicksIn now) (λ j. coreTicksMeant (getD ticks j noTicks)) n a i l in

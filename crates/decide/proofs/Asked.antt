@@ -10,12 +10,7 @@ use Rattle.model.specs.Calls.{rules, tidOf, takenBy, check, cannotTake}
 use Rattle.queue.specs.Ready.{Picked}
 use Rattle.queue.proofs.Scan.{behind, there}
 use Rattle.queue.proofs.Search.{named-waits, named-absent}
-use Rattle.decide.specs.Forced.{asked}
-
--- 15 named thread not ready, 16 nobody waits
-abbrev pub absent : Option ℕ → ℕ
-absent none = 16
-absent (some t) = 15
+use Rattle.decide.specs.Forced.{asked, absent}
 
 module _ (s : State) (i : ℕ) (at : ℕ) where
   pub taken-at : (n : Option ℕ) → Picked (asked (s .config .policy) (rules s .prio) n (s .queue)) (s .queue) at → at < length (s .queue) → takenBy s i n ≡ getD (s .queue) at 0

@@ -10,3 +10,8 @@ use Rattle.queue.specs.Ready.{named}
 abbrev pub asked : Policy → (prio : ℕ → ℕ) → Option ℕ → (queue : List ℕ) → Option ℕ
 asked p pr none q = choose p pr none q
 asked p pr (some t) q = named t q
+
+-- 01: "15 named thread not ready. 16 nobody waits."
+abbrev pub absent : Option ℕ → ℕ
+absent none = 16
+absent (some t) = 15

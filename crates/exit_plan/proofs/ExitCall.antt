@@ -9,6 +9,7 @@ use native.Mathlib.Omega.{arith}
 use lib.Dec.{leb}
 use lib.ListN.{length, take, drop, getD, set, length-set, length-append, take-append-drop, length-take, length-drop}
 use lib.Seq.{getD-set-same, getD-set-other, length-take-le, take-at, drop-at, drop-drop}
+use Rattle.model.specs.Invariants.{Placed, CoresOK, statesOf as threadStates, Bounded}
 use Rattle.model.specs.declared.ThreadInfo.{ThreadInfo}
 use Rattle.model.specs.declared.CallAnswer.{CallAnswer}
 use Rattle.model.specs.declared.CoreState.the-variants as CoreStateCases
@@ -18,11 +19,9 @@ use Rattle.model.specs.Accounting.{finished, onThread, setState}
 use Rattle.model.specs.Calls.{Answer, ok, refusal, accept, check, exit, exited, wake, waiters, markExit, tidOn, tidOf, coreStateOf, coreAt, leaving, isIdle, limitNow, idleCore}
 use Rattle.model.specs.Reading.{coreStateMeant, threadMeant, callAnswerMeant}
 use Rattle.model.proofs.Invariants.{check-none}
-use Rattle.model.proofs.Placement.{Placed, check-rest, held-on, statesOf-range, queue-fits}
-use Rattle.model.proofs.ThreadStates.{CellsOK}
-use Rattle.model.proofs.ThreadStates.{statesOf as threadStates}
+use Rattle.model.proofs.Placement.{check-rest, held-on, statesOf-range, queue-fits}
 use Rattle.model.proofs.PhaseLaws.{length-update}
-use Rattle.model.proofs.Bounded.{Bounded, bounded-accept, wake-ticks}
+use Rattle.model.proofs.Bounded.{bounded-accept, wake-ticks}
 use Rattle.records.specs.declared.change.Change.{Change}
 use Rattle.records.specs.declared.change.Change.the-variants as Changes
 use Rattle.records.specs.Changes.{changeMeant, Fits}
@@ -112,7 +111,7 @@ module _ (s : Sched) (ts : List ThreadInfo) (qs ps ls ws : List ℕ) (v : Valid 
     tid-on = ap (λ (c : Core). tidOf (holder (c .state))) core-own
 
     thread-there : t < s .threads
-    unfolding refusal coreStateOf tidOn CellsOK meantAt
+    unfolding refusal coreStateOf tidOn CoresOK meantAt
     thread-there =
         let r = check-rest 4 _ _ unrefused in
         let unclosed = check-none 11 _ _ r in

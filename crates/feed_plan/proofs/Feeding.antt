@@ -15,6 +15,7 @@ use Rattle.settings.specs.declared.SchedConfig.{SchedConfig}
 use Rattle.settings.specs.Reading.{refusalNumber, policyMeant, settingsMeant}
 use Rattle.rcfg.specs.declared.Head as Heads
 use Rattle.rcfg.specs.Reading.{headMeant}
+use Rattle.script.specs.Invariants.{Kept}
 use Rattle.model.specs.declared.ThreadInfo.{ThreadInfo}
 use Rattle.model.specs.declared.CallAnswer.{CallAnswer}
 use Rattle.model.specs.declared.CallAnswer.the-variants as CallCases
@@ -39,7 +40,7 @@ use Rattle.script.specs.Report as Definition
 use Rattle.script.specs.Report.{heads, calls, ended, over, answerText, refusedText, created, begun, said, lineAt, feed}
 use Rattle.script.proofs.Consistency.{check-rest}
 use Rattle.script.proofs.Prints.{allowance}
-use Rattle.script.proofs.Room.{Kept, callRoom, lineRoom, feed-well}
+use Rattle.script.proofs.Room.{callRoom, lineRoom, feed-well}
 use Rattle.feed_plan.specs.declared.Stage.{Stage}
 use Rattle.feed_plan.specs.declared.Stage.the-variants as StageCases
 use Rattle.feed_plan.specs.declared.Report.{Report}

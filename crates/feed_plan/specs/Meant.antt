@@ -4,13 +4,13 @@ use mathlib.Core.List.{List}
 use lib.ListN.{length}
 use Rattle.rcfg.specs.declared.Head as Heads
 use Rattle.rcfg.specs.Reading.{headMeant}
+use Rattle.script.specs.Invariants.{Kept}
 use Rattle.model.specs.declared.ThreadInfo.{ThreadInfo}
 use Rattle.model.specs.Types.{State}
 use Rattle.state.specs.declared.Sched.{Sched}
 use Rattle.state.specs.Memory.{memory}
 use Rattle.state.specs.State.{meantAt, Valid}
 use Rattle.script.specs.Report as Definition
-use Rattle.script.proofs.Room.{Kept}
 use Rattle.feed_plan.specs.declared.Stage.{Stage}
 use Rattle.feed_plan.specs.declared.Stage.the-variants as StageCases
 use Rattle.feed_plan.specs.declared.Report.{Report}

@@ -9,23 +9,22 @@ use borrow.Author.Tests.{leb-true, leb-false}
 use lib.Dec.{leb}
 use lib.ListN.{length, take, drop, getD}
 use lib.Seq.{length-take-le}
+use Rattle.model.specs.Invariants.{All, ThreadIn}
 use Rattle.model.specs.declared.CallAnswer.{CallAnswer}
 use Rattle.model.specs.declared.CallAnswer.the-variants as CallCases
 use Rattle.model.specs.declared.ThreadInfo.{ThreadInfo}
 use Rattle.model.specs.Types.{CoreState, Core, Move, ThreadRecord, State}
 use Rattle.model.specs.Phases.{update, without, dispatchMoves}
-use Rattle.model.specs.Accounting.{applyMoves, switchList}
+use Rattle.model.specs.Accounting.{applyMoves, switchList, takesIn}
 use Rattle.model.specs.Calls.{Answer, switched, refusal, accept, check, force, rules, noCore, coreAt, coreStateOf, anyLeaving, isSwitching, cannotTake, takenBy, outOf, backOf, forcedCore, limitSwitches, limitNow}
 use Rattle.model.specs.Reading.{coreStateMeant, threadMeant, switchesMeant, switchAnswerMeant}
 use Rattle.model.proofs.Invariants.{check-none}
 use Rattle.model.proofs.Placement.{check-rest}
-use Rattle.model.proofs.Preempt.{AllN}
-use Rattle.model.proofs.PhaseLaws.{All}
-use Rattle.model.proofs.Bounded.{AllL, all-at, ThreadIn, takesIn, applied-ticks, applied-switches, switches-figure}
+use Rattle.model.proofs.Bounded.{all-at, applied-ticks, applied-switches, switches-figure}
 use Rattle.queue.specs.Words.{movesIn}
 use Rattle.queue.specs.Ready.{Picked}
-use Rattle.decide.specs.Forced.{asked}
-use Rattle.decide.proofs.Asked.{absent, taken-at, can-take, cannot-take}
+use Rattle.decide.specs.Forced.{asked, absent}
+use Rattle.decide.proofs.Asked.{taken-at, can-take, cannot-take}
 use Rattle.record_moves.specs.Moves.{movedThreads, MoveRoom}
 use Rattle.record_moves.proofs.Moving.{moved-threads}
 use Rattle.threads.specs.Slice.{blank, threadsIn, Front, tidAt, MovesFit}

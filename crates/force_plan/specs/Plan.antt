@@ -23,8 +23,7 @@ use Rattle.state.specs.Done.{Done}
 use Rattle.tick_plan.specs.declared.Planned.{Planned}
 use Rattle.tick_plan.specs.declared.Written.{Written}
 use Rattle.tick_plan.specs.Plan.{MovedRecords}
-use Rattle.decide.specs.Forced.{asked}
-use Rattle.decide.proofs.Asked.{absent}
+use Rattle.decide.specs.Forced.{asked, absent}
 
 -- a forced switch that is done once the moves are applied to the records
 pub record ForcePending (core : ℕ) (named : Option ℕ) (a : Answer) (s s' : Sched) (count : ℕ) (ts : List ThreadInfo) (qs qs' ps ls ls' ws ws' : List ℕ) : Type 0 where

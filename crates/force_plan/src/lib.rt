@@ -15,7 +15,7 @@ ghost use Prim.Native.Nat.{_≤_};
 ghost use Rattle.settings.specs.Reading.{refusalNumber};
 ghost use Rattle.model.specs.Calls.{anyLeaving, isSwitching};
 ghost use Rattle.model.specs.Reading.{coreStateMeant, optionTidMeant};
-ghost use Rattle.decide.proofs.Asked.{absent};
+ghost use Rattle.decide.specs.Forced.{absent};
 ghost use Rattle.state.specs.State.{firsts};
 ghost use Rattle.checks.specs.Check.{checkMeant};
 ghost use Rattle.force_plan.specs.Plan.{coresOf, forceRefusal};

@@ -9,99 +9,34 @@ use native.Mathlib.Omega.{arith}
 use lib.Dec.{eqb, leb, ltb}
 use lib.ListN.{length, getElem?, replicate, length-append, length-map, length-replicate, drop, length-drop}
 use borrow.Author.Tests.{leb-true, leb-false, ltb-true, ltb-false}
+use Rattle.model.specs.Invariants.{All, Placed, Roomy, Between, ThreadIn, TicksIn, CoreStateIn, CoreIn, Settings, Sizes, Bounded}
 use Rattle.model.specs.Types.{Policy, Off, Fifo, RoundRobin, Priority, CoreState, Idle, Switching, Running, LeaveReason, Exit, Block, Yield, Quantum, Preempt, Forced, Core, Move, starts, leaves, takes}
 use Rattle.model.specs.Types.{ThreadState, Ready, Exited, OnCore, Blocked, Times, Counts, ThreadRecord, CoreTicks, Segment, Event, EventKind, Config, Accounts, State}
 use Rattle.model.specs.Phases.{Rules, Turn, Pass, Phase, ascend, andThen, update, dispatchedState, dispatchMoves, dispatch, sliced, phase1, switchedIn, isDue, phase2, leavesFor, holder, vacate, phase3, filled, phase4, handOver, wantsHandOver, ceilingOf, unyielded, phase5, phase6, phases1To4, decide, pickNext, withState, cleared, Victim, Preemption, nextPreemption, preempted, preemptRounds}
-use Rattle.model.specs.Accounting.{setState, setPriority, addCounts, orElse, started, finished, left, recordLeave, recordDispatch, born, setThreads, onThread, logged, applyMove, applyMoves, chargeCore, runs, holds, chargeWaiting, chargeThreads, charge, newest, grown, laneOf}
+use Rattle.model.specs.Accounting.{setState, setPriority, addCounts, orElse, started, finished, left, recordLeave, recordDispatch, born, setThreads, onThread, logged, applyMove, applyMoves, chargeCore, runs, holds, chargeWaiting, chargeThreads, charge, newest, grown, laneOf, takesIn}
 use Rattle.model.specs.Calls.{Call, spawn, exit, join, retired, yield, priority, timing, force, tick, close, JoinOutcome, Wait, Done, Invalid, accept, stepped, refusal, step, run, rules, check, noCore, leaving, anyLeaving, cannotTake, limitNow, limitSwitches, badTiming, coreStateOf, coreAt, tidOn, threadStateOf, yieldsOf, exited, blocking, outcome, waiters, wake, markExit, markBlock, markYield, markProgress, unmarked, forcedCore, takenBy, outOf, slicedAll, priorityOf, parentOf, idleCore, Made, made, unmade, new, madeOf, refusedNew, initialState, beyond}
-use Rattle.model.proofs.PhaseLaws.{All, all-update, length-update, ascend-length, ascend-all, or-false-l, or-false-r, not-both}
+use Rattle.model.proofs.PhaseLaws.{all-update, length-update, ascend-length, ascend-all, or-false-l, or-false-r, not-both}
 use Rattle.model.proofs.Invariants.{check-none}
-use Rattle.model.proofs.Placement.{Placed, placed-accept, placed-new, Roomy, roomy-accept}
-
----- the bounds
-
-abbrev pub AllL : {A : Type 0} → (A → Type 0) → List A → Type 0
-AllL P [] = Unit {0}
-AllL P (x ∷ xs) = P x × AllL P xs
-
-abbrev pub Between : ℕ → ℕ → Option ℕ → Type 0
-Between a b none = Unit {0}
-Between a b (some n) = (a ≤ n) × (n ≤ b)
-
--- a thread's record, d and p bounding its dispatches and preemptions
-pub record ThreadIn (now d p : ℕ) (t : ThreadRecord) : Type 0 where
-  pub run : t .counts .run ≤ now
-  pub ready : t .counts .ready ≤ now
-  pub blocked : t .counts .blocked ≤ now
-  pub dispatches : t .counts .dispatches ≤ d
-  pub preemptions : t .counts .preemptions ≤ p
-  pub yields : t .counts .yields ≤ limitNow
-  pub arrival : t .times .arrival ≤ now
-  pub firstRun : Between (t .times .arrival) now (t .times .firstRun)
-  pub finish : Between (t .times .arrival) (now + 1) (t .times .finish)
-
--- a core's three counters
-abbrev pub TicksIn : ℕ → CoreTicks → Type 0
-TicksIn now n = n .busy + n .switching + n .idle ≡ now
-
--- a core's slice, or what it has left to switch
-abbrev pub CoreStateIn : ℕ → CoreState → Type 0
-CoreStateIn now Idle = Unit {0}
-CoreStateIn now (Switching t l) = (1 ≤ l) × (l ≤ 10_000)
-CoreStateIn now (Running t s) = s ≤ now
-
-abbrev pub CoreIn : ℕ → Core → Type 0
-CoreIn now c = CoreStateIn now (c .state)
-
-pub record Settings (k : Config) : Type 0 where
-  pub quantum : 1 ≤ k .quantum
-  pub quantum′ : k .quantum ≤ 1_000_000
-  pub cost : k .cost ≤ 10_000
-  pub capT : 1 ≤ k .capT
-  pub capT′ : k .capT ≤ 256
-  pub capE : 1 ≤ k .capE
-  pub capE′ : k .capE ≤ 512
-  pub capS : 1 ≤ k .capS
-  pub capS′ : k .capS ≤ 4096
-
--- n cores, at most e events and c segments a core
-pub record Sizes (e c n : ℕ) (b : Accounts) : Type 0 where
-  pub ticks : length (b .ticks) ≡ n
-  pub timelines : length (b .timelines) ≡ n
-  pub log : length (b .log) ≤ e
-  pub segments : AllL (λ (l : List Segment). length l ≤ c) (b .timelines)
-
-pub record Bounded (s : State) : Type 0 where
-  pub placed : Placed s
-  pub roomy : Roomy s
-  pub settings : Settings (s .config)
-  pub some : 1 ≤ length (s .cores)
-  pub few : length (s .cores) ≤ 8
-  pub sizes : Sizes (s .config .capE) (s .config .capS) (length (s .cores)) (s .accounts)
-  pub now : s .now ≤ limitNow
-  pub contextSwitches : s .accounts .contextSwitches ≤ limitSwitches + 24 * s .now
-  pub threads : AllL (ThreadIn (s .now) (s .accounts .contextSwitches + 1) (s .accounts .contextSwitches)) (s .accounts .threads)
-  pub ticks : AllL (TicksIn (s .now)) (s .accounts .ticks)
-  pub cores : All (CoreIn (s .now)) (s .cores)
+use Rattle.model.proofs.Placement.{placed-accept, placed-new, roomy-accept}
 
 ---- lists
 
-pub all-map : {A : Type 0} (P Q : A → Type 0) → ((x : A) → P x → Q x) → (xs : List A) → AllL P xs → AllL Q xs
+pub all-map : {A : Type 0} (P Q : A → Type 0) → ((x : A) → P x → Q x) → (xs : List A) → All P xs → All Q xs
 all-map P Q h [] a = tt
 all-map P Q h (x ∷ xs) a = (h x (a .0), all-map P Q h xs (a .1))
 
-pub all-snoc : {A : Type 0} (P : A → Type 0) (xs : List A) (y : A) → AllL P xs → P y → AllL P (xs ++ (y ∷ []))
+pub all-snoc : {A : Type 0} (P : A → Type 0) (xs : List A) (y : A) → All P xs → P y → All P (xs ++ (y ∷ []))
 all-snoc P [] y a h = (h, tt)
 all-snoc P (x ∷ xs) y a h = (a .0, all-snoc P xs y (a .1) h)
 
 -- one entry changed, if there is one
-pub all-change : {A : Type 0} (P Q : A → Type 0) (f : A → A) (n : ℕ) (xs : List A) → ((x : A) → getElem? xs n ≡ some x → P x → Q (f x)) → ((x : A) → P x → Q x) → AllL P xs → AllL Q (update n f xs)
+pub all-change : {A : Type 0} (P Q : A → Type 0) (f : A → A) (n : ℕ) (xs : List A) → ((x : A) → getElem? xs n ≡ some x → P x → Q (f x)) → ((x : A) → P x → Q x) → All P xs → All Q (update n f xs)
 unfolding update
 all-change P Q f n [] h w a = tt
 all-change P Q f zero (x ∷ xs) h w a = (h x refl (a .0), all-map P Q w xs (a .1))
 all-change P Q f (suc n) (x ∷ xs) h w a = (w x (a .0), all-change P Q f n xs h w (a .1))
 
-pub all-at : {A : Type 0} (P : A → Type 0) (xs : List A) (n : ℕ) (x : A) → AllL P xs → getElem? xs n ≡ some x → P x
+pub all-at : {A : Type 0} (P : A → Type 0) (xs : List A) (n : ℕ) (x : A) → All P xs → getElem? xs n ≡ some x → P x
 all-at P [] n x a e = absurd (let z : _≡_ {A = ℕ} 0 1 = cc in omega arith)
 all-at P (y ∷ xs) zero x a e = subst P (same e) (a .0)
   where
@@ -204,12 +139,6 @@ loss Yield = 0
 loss Quantum = 1
 loss Preempt = 1
 loss Forced = 1
-
-unfoldable pub takesIn : List Move → ℕ
-takesIn [] = 0
-takesIn (starts t ∷ ms) = takesIn ms
-takesIn (leaves t i r ∷ ms) = takesIn ms
-takesIn (takes t i ∷ ms) = suc (takesIn ms)
 
 unfoldable pub lossesIn : List Move → ℕ
 lossesIn [] = 0
@@ -410,7 +339,7 @@ pub recordDispatch-in : (now d p i : ℕ) (t : ThreadRecord) → ThreadIn now d 
 unfolding recordDispatch
 recordDispatch-in now d p i t h = lived now (d + 1) p (addCounts 0 0 0 1 0 0 t) _ refl refl (counted now now d (d + 1) p p 0 0 0 1 0 0 t (omega arith) (omega arith) (omega arith) (omega arith) (omega arith) (omega arith) (omega (arith, h .yields)) h)
 
-pub applied-in : (e now d p : ℕ) (ms : List Move) (b : Accounts) → AllL (ThreadIn now d p) (b .threads) → AllL (ThreadIn now (d + takesIn ms) (p + lossesIn ms)) (applyMoves e now ms b .threads)
+pub applied-in : (e now d p : ℕ) (ms : List Move) (b : Accounts) → All (ThreadIn now d p) (b .threads) → All (ThreadIn now (d + takesIn ms) (p + lossesIn ms)) (applyMoves e now ms b .threads)
 unfolding applyMoves applyMove logged takesIn lossesIn
 applied-in e now d p [] b a = all-map _ _ (thread-up now now d (d + 0) p (p + 0) (omega arith) (omega arith) (omega arith)) (b .threads) a
 applied-in e now d p (starts t ∷ ms) b a = applied-in e now d p ms _ (all-change (ThreadIn now d p) (ThreadIn now d p) (started now) t (b .threads) (λ x g h. started-in now d p x h) (λ x h. h) a)
@@ -435,7 +364,7 @@ applied-ticks e now (starts t ∷ ms) b = applied-ticks e now ms _
 applied-ticks e now (leaves t i r ∷ ms) b = applied-ticks e now ms _
 applied-ticks e now (takes t i ∷ ms) b = applied-ticks e now ms _
 
-pub wake-in : (P : ThreadRecord → Type 0) → ((t : ThreadRecord) → P t → P (setState Ready t)) → (e now : ℕ) (w : List ℕ) (b : Accounts) → AllL P (b .threads) → AllL P (wake e now w b .threads)
+pub wake-in : (P : ThreadRecord → Type 0) → ((t : ThreadRecord) → P t → P (setState Ready t)) → (e now : ℕ) (w : List ℕ) (b : Accounts) → All P (b .threads) → All P (wake e now w b .threads)
 unfolding wake logged
 wake-in P h e now [] b a = a
 wake-in P h e now (x ∷ w) b a = wake-in P h e now w _ (all-change P P (setState Ready) x (b .threads) (λ t g k. h t k) (λ t k. k) a)
@@ -450,7 +379,7 @@ unfolding wake logged
 wake-ticks e now [] b = refl
 wake-ticks e now (x ∷ w) b = wake-ticks e now w _
 
-pub charged-in : (now d p : ℕ) (cs : List Core) (i : ℕ) (ts : List ThreadRecord) → AllL (ThreadIn now d p) ts → AllL (ThreadIn (now + 1) d p) (chargeThreads cs i ts)
+pub charged-in : (now d p : ℕ) (cs : List Core) (i : ℕ) (ts : List ThreadRecord) → All (ThreadIn now d p) ts → All (ThreadIn (now + 1) d p) (chargeThreads cs i ts)
 unfolding chargeThreads chargeWaiting
 charged-in now d p cs i [] a = tt
 charged-in now d p cs i (t ∷ ts) a = (go (runs i cs) (holds i cs) (t .state), charged-in now d p cs (suc i) ts (a .1))
@@ -471,7 +400,7 @@ charged-in now d p cs i (t ∷ ts) a = (go (runs i cs) (holds i cs) (t .state), 
 
 ---- the cores' counters, the log and the timelines
 
-pub chargeCore-in : (now : ℕ) (cs : List Core) (ns : List CoreTicks) → AllL (TicksIn now) ns → AllL (TicksIn (now + 1)) (zipWith (λ (c : Core) (n : CoreTicks). chargeCore (c .state) n) cs ns)
+pub chargeCore-in : (now : ℕ) (cs : List Core) (ns : List CoreTicks) → All (TicksIn now) ns → All (TicksIn (now + 1)) (zipWith (λ (c : Core) (n : CoreTicks). chargeCore (c .state) n) cs ns)
 unfolding chargeCore zipWith
 chargeCore-in now [] ns a = tt
 chargeCore-in now (c ∷ cs) [] a = tt
@@ -515,7 +444,7 @@ pub sizes-charge : (e c now : ℕ) (cs : List Core) (b : Accounts) → Sizes e c
 unfolding charge zipWith
 sizes-charge e c now cs b h = record { ticks = zip-length _ cs (b .ticks) (h .ticks); timelines = zip-length _ cs (b .timelines) (h .timelines); log = h .log; segments = all-grown cs (b .timelines) }
   where
-    all-grown : (xs : List Core) (ls : List (List Segment)) → AllL (λ (l : List Segment). length l ≤ c) (zipWith (λ (x : Core) (l : List Segment). newest c (grown now (laneOf (x .state)) l)) xs ls)
+    all-grown : (xs : List Core) (ls : List (List Segment)) → All (λ (l : List Segment). length l ≤ c) (zipWith (λ (x : Core) (l : List Segment). newest c (grown now (laneOf (x .state)) l)) xs ls)
     all-grown [] ls = tt
     all-grown (x ∷ xs) [] = tt
     all-grown (x ∷ xs) (l ∷ ls) = (newest-in c _, all-grown xs ls)
@@ -746,13 +675,13 @@ switches-accept s (force i n) r few h =
 switches-accept s tick r few h = omega (arith, moved s tick, fair-decide (rules s) (s .cores) (s .queue) .1)
 switches-accept s (close i) r few h = omega (arith, moved s (close i))
 
-ticks-accept : (s : State) (c : Call) → AllL (TicksIn (s .now)) (s .accounts .ticks) → AllL (TicksIn (accept s c .state .now)) (accept s c .state .accounts .ticks)
+ticks-accept : (s : State) (c : Call) → All (TicksIn (s .now)) (s .accounts .ticks) → All (TicksIn (accept s c .state .now)) (accept s c .state .accounts .ticks)
 unfolding accept blocking exited charge logged
 ticks-accept s (spawn p e) a = a
-ticks-accept s (exit i) a = subst (AllL (TicksIn (s .now))) (sym (wake-ticks (s .config .capE) (s .now) _ _)) a
+ticks-accept s (exit i) a = subst (All (TicksIn (s .now))) (sym (wake-ticks (s .config .capE) (s .now) _ _)) a
 ticks-accept s (join i t) a = go (outcome (tidOn s i) t (threadStateOf (getElem? (s .accounts .threads) t)))
   where
-    go : (j : JoinOutcome) → AllL (TicksIn (blocking s i t j .now)) (blocking s i t j .accounts .ticks)
+    go : (j : JoinOutcome) → All (TicksIn (blocking s i t j .now)) (blocking s i t j .accounts .ticks)
     go Done = a
     go Invalid = a
     go Wait = a
@@ -760,10 +689,10 @@ ticks-accept s (retired i) a = a
 ticks-accept s (yield i) a = a
 ticks-accept s (priority t n) a = a
 ticks-accept s (timing q w) a = a
-ticks-accept s (force i n) a = subst (AllL (TicksIn (s .now))) (sym (applied-ticks (s .config .capE) (s .now) (outOf i (coreStateOf s i) ++ dispatchMoves (s .config .cost) (takenBy s i n) i) (s .accounts))) a
+ticks-accept s (force i n) a = subst (All (TicksIn (s .now))) (sym (applied-ticks (s .config .capE) (s .now) (outOf i (coreStateOf s i) ++ dispatchMoves (s .config .cost) (takenBy s i n) i) (s .accounts))) a
 ticks-accept s tick a =
-    subst (AllL (TicksIn (s .now + 1))) (sym (applied-ticks (s .config .capE) (s .now + 1) (decide (rules s) (s .cores) (s .queue) .moves) (charge (s .config .capS) (s .now) (s .cores) (s .accounts)))) (chargeCore-in (s .now) (s .cores) (s .accounts .ticks) a)
-ticks-accept s (close i) a = chargeCore-in (s .now) (update i markExit (s .cores)) _ (subst (AllL (TicksIn (s .now))) (sym (wake-ticks (s .config .capE) (s .now) _ _)) a)
+    subst (All (TicksIn (s .now + 1))) (sym (applied-ticks (s .config .capE) (s .now + 1) (decide (rules s) (s .cores) (s .queue) .moves) (charge (s .config .capS) (s .now) (s .cores) (s .accounts)))) (chargeCore-in (s .now) (s .cores) (s .accounts .ticks) a)
+ticks-accept s (close i) a = chargeCore-in (s .now) (update i markExit (s .cores)) _ (subst (All (TicksIn (s .now))) (sym (wake-ticks (s .config .capE) (s .now) _ _)) a)
 
 all-cores : (P Q : Core → Type 0) (f : Core → Core) → ((c : Core) → P c → Q (f c)) → (cs : List Core) → All P cs → All Q (map f cs)
 all-cores P Q f h [] a = tt
@@ -790,7 +719,7 @@ cores-accept s (close i) w a =
     (all-cores (CoreIn (s .now)) (CoreIn (s .now + 1)) (λ c. withState (sliced (c .state)) c) (λ c h. sliced-in (s .now) (c .state) h) (update i markExit (s .cores)) (all-update {P = CoreIn (s .now)} markExit (λ c h. h) i (s .cores) a))
 
 -- the records, with d and p for what bounds dispatches and preemptions
-pub exited-in : (s : State) (i d p : ℕ) → AllL (ThreadIn (s .now) d p) (s .accounts .threads) → AllL (ThreadIn (s .now) d p) (exited s i .accounts .threads)
+pub exited-in : (s : State) (i d p : ℕ) → All (ThreadIn (s .now) d p) (s .accounts .threads) → All (ThreadIn (s .now) d p) (exited s i .accounts .threads)
 unfolding exited
 exited-in s i d p a =
     wake-in (ThreadIn (s .now) d p) (λ t h. lived (s .now) d p t (setState Ready t) refl refl h) (s .config .capE) (s .now) _ (onThread (tidOn s i) (finished (s .now)) (s .accounts))
@@ -806,8 +735,8 @@ yield-below s i x r g =
     subst (λ (o : Option ThreadRecord). yieldsOf o < limitNow) g (leb-false limitNow (yieldsOf (getElem? (s .accounts .threads) (tidOn s i))) (check-none 19 _ none (check-rest 13 _ _ (check-rest 12 _ _ (check-rest 11 _ _ (check-rest 4 _ _ r))))))
 
 threads-accept :
-    (s : State) (c : Call) (d p : ℕ) → refusal s c ≡ none → AllL (ThreadIn (s .now) d p) (s .accounts .threads)
-    → AllL (ThreadIn (accept s c .state .now) (d + takesIn (accept s c .moves)) (p + lossesIn (accept s c .moves))) (accept s c .state .accounts .threads)
+    (s : State) (c : Call) (d p : ℕ) → refusal s c ≡ none → All (ThreadIn (s .now) d p) (s .accounts .threads)
+    → All (ThreadIn (accept s c .state .now) (d + takesIn (accept s c .moves)) (p + lossesIn (accept s c .moves))) (accept s c .state .accounts .threads)
 unfolding accept blocking charge logged takesIn lossesIn
 threads-accept s c d p r a = go c r
   where
@@ -817,18 +746,18 @@ threads-accept s c d p r a = go c r
     P0 : ThreadRecord → Type 0
     P0 = ThreadIn (s .now) (d + 0) (p + 0)
 
-    up : (ts : List ThreadRecord) → AllL (ThreadIn (s .now) d p) ts → AllL (ThreadIn (s .now) (d + 0) (p + 0)) ts
+    up : (ts : List ThreadRecord) → All (ThreadIn (s .now) d p) ts → All (ThreadIn (s .now) (d + 0) (p + 0)) ts
     up ts b = all-map _ _ (thread-up (s .now) (s .now) d (d + 0) p (p + 0) (omega arith) (omega arith) (omega arith)) ts b
 
-    go : (c : Call) → refusal s c ≡ none → AllL (ThreadIn (accept s c .state .now) (d + takesIn (accept s c .moves)) (p + lossesIn (accept s c .moves))) (accept s c .state .accounts .threads)
+    go : (c : Call) → refusal s c ≡ none → All (ThreadIn (accept s c .state .now) (d + takesIn (accept s c .moves)) (p + lossesIn (accept s c .moves))) (accept s c .state .accounts .threads)
     go (spawn q e) r = all-snoc (ThreadIn (s .now) (d + 0) (p + 0)) (s .accounts .threads) _ (up (s .accounts .threads) a) (born-in _ q e _ (s .now) (d + 0) (p + 0))
     go (exit i) r = out
       where
-        out : AllL (ThreadIn (exited s i .now) (d + 0) (p + 0)) (exited s i .accounts .threads)
+        out : All (ThreadIn (exited s i .now) (d + 0) (p + 0)) (exited s i .accounts .threads)
         out = unfold exited in up (exited s i .accounts .threads) (exited-in s i d p a)
     go (join i t) r = two (outcome (tidOn s i) t (threadStateOf (getElem? (s .accounts .threads) t)))
       where
-        two : (j : JoinOutcome) → AllL (ThreadIn (blocking s i t j .now) (d + 0) (p + 0)) (blocking s i t j .accounts .threads)
+        two : (j : JoinOutcome) → All (ThreadIn (blocking s i t j .now) (d + 0) (p + 0)) (blocking s i t j .accounts .threads)
         two Done = up (s .accounts .threads) a
         two Invalid = up (s .accounts .threads) a
         two Wait = up (update (tidOn s i) (setState (Blocked t)) (s .accounts .threads)) (all-change P P (setState (Blocked t)) (tidOn s i) (s .accounts .threads) (λ x g h. lived (s .now) d p x (setState (Blocked t) x) refl refl h) (λ x h. h) a)
@@ -842,7 +771,7 @@ threads-accept s c d p r a = go c r
     go tick r = applied-in (s .config .capE) (s .now + 1) d p (decide (rules s) (s .cores) (s .queue) .moves) (charge (s .config .capS) (s .now) (s .cores) (s .accounts)) (charged-in (s .now) d p (s .cores) 0 (s .accounts .threads) a)
     go (close i) r = out
       where
-        out : AllL (ThreadIn (exited s i .now + 1) (d + 0) (p + 0)) (chargeThreads (exited s i .cores) 0 (exited s i .accounts .threads))
+        out : All (ThreadIn (exited s i .now + 1) (d + 0) (p + 0)) (chargeThreads (exited s i .cores) 0 (exited s i .accounts .threads))
         out = unfold exited in all-map (ThreadIn (s .now + 1) d p) (ThreadIn (s .now + 1) (d + 0) (p + 0)) (thread-up (s .now + 1) (s .now + 1) d (d + 0) p (p + 0) (omega arith) (omega arith) (omega arith)) (chargeThreads (exited s i .cores) 0 (exited s i .accounts .threads)) (charged-in (s .now) d p (exited s i .cores) 0 (exited s i .accounts .threads) (exited-in s i d p a))
 
 -- preemptions are no more than dispatches, whatever the call
@@ -894,7 +823,7 @@ bounded-run (c ∷ cs) s v = bounded-run cs (step s c .state) (bounded-step s c 
 
 ---- creation
 
-all-replicate : {A : Type 0} (P : A → Type 0) (n : ℕ) (x : A) → P x → AllL P (replicate n x)
+all-replicate : {A : Type 0} (P : A → Type 0) (n : ℕ) (x : A) → P x → All P (replicate n x)
 all-replicate P zero x h = tt
 all-replicate P (suc n) x h = (h, all-replicate P n x h)
 

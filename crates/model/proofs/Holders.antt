@@ -6,14 +6,15 @@ use mathlib.Core.Option.{Option, none, some}
 use mathlib.Core.List.{List, [], _∷_, map}
 use native.Mathlib.Omega.{arith}
 use lib.ListN.{length, getElem?, replicate}
+use Rattle.model.specs.Invariants.{States, statesOf, Each, OKAt, CoreOK, CoresOK, Loose, Placed}
 use Rattle.model.specs.Types.{Policy, CoreState, Idle, Switching, Running, Core, ThreadState, Ready, Exited, OnCore, Blocked, State}
 use Rattle.model.specs.Phases.{update, holder, withState, sliced, decide, cleared}
 use Rattle.model.specs.Accounting.{chargeThreads}
 use Rattle.model.specs.Calls.{Call, spawn, exit, join, retired, yield, priority, timing, force, tick, close, JoinOutcome, Wait, Done, Invalid, accept, stepped, refusal, step, run, rules, check, isIdle, coreAt, coreStateOf, tidOf, tidOn, leaving, anyLeaving, threadStateOf, idleCore, exited, blocking, outcome, markExit, markBlock, markYield, markProgress, unmarked, slicedAll, forcedCore, takenBy, Made, made, unmade, new, madeOf, refusedNew, initialState}
 use Rattle.model.proofs.PhaseLaws.{not-both}
 use Rattle.model.proofs.Invariants.{check-none}
-use Rattle.model.proofs.ThreadStates.{States, statesOf, Each, OKAt, CellOK, CellsOK, HeldCores, Loose, decide-held, after}
-use Rattle.model.proofs.Placement.{Placed, placed-accept, placed-new, placed-force, held-on, any-none, held-ok, check-rest, statesOf-range}
+use Rattle.model.proofs.ThreadStates.{HeldCores, decide-held, after}
+use Rattle.model.proofs.Placement.{placed-accept, placed-new, placed-force, held-on, any-none, held-ok, check-rest, statesOf-range}
 
 abbrev pub heldBy : List Core → ℕ → Option ℕ
 heldBy cs i = holder (coreAt cs i .state)
@@ -28,7 +29,7 @@ busy (Switching u l) t e = refl
 busy (Running u l) t e = refl
 
 -- where nobody left, each core's thread says which core it is on
-single-unmarked : (L : States) (cs : List Core) → Each (CellOK L) 0 cs → ((i : ℕ) → leaving (coreAt cs i) ≡ false) → Single cs
+single-unmarked : (L : States) (cs : List Core) → Each (CoreOK L) 0 cs → ((i : ℕ) → leaving (coreAt cs i) ≡ false) → Single cs
 unfolding tidOf
 single-unmarked L cs a g i j t ei ej = same (at i ei) (at j ej)
   where
@@ -85,14 +86,14 @@ single-join s i t Wait v = single-same (s .cores) _ (marked-held markBlock (λ c
 ---- the others clear the marks, or find none
 
 single-force : (s : State) (i : ℕ) (n : Option ℕ) → refusal s (force i n) ≡ none → Placed s → Single (accept s (force i n) .state .cores)
-unfolding refusal accept CellsOK leaving
+unfolding refusal accept CoresOK leaving
 single-force s i n r v =
     let r4 = check-rest 4 _ _ r in
     let r11 = check-rest 11 _ _ r4 in
     single-unmarked _ _ (placed-force s i n r v .cores (check-none 11 _ _ r4)) (unmarked-update (forcedCore (s .config .cost) (takenBy s i n)) (λ c. refl) i (s .cores) (λ m. any-none (s .cores) m (check-none 12 _ _ r11)))
 
 single-tick : (s : State) → refusal s tick ≡ none → Placed s → Single (accept s tick .state .cores)
-unfolding refusal accept CellsOK
+unfolding refusal accept CoresOK
 single-tick s r v =
     let h = decide-held (statesOf (s .accounts .threads)) (rules s) (s .cores) (s .queue) (v .cores (check-none 11 _ _ r)) (v .queue) in
     let p = decide (rules s) (s .cores) (s .queue) in
@@ -161,7 +162,7 @@ loose-range : (L : Option ThreadState) → Loose L → (l : ThreadState) × (L �
 loose-range none h = absurd h
 loose-range (some l) h = (l, refl)
 
-known-on : (L : States) (i : ℕ) (cs : List Core) → Each (CellOK L) i cs → (n t : ℕ) → heldBy cs n ≡ some t → (l : ThreadState) × (L t ≡ some l)
+known-on : (L : States) (i : ℕ) (cs : List Core) → Each (CoreOK L) i cs → (n t : ℕ) → heldBy cs n ≡ some t → (l : ThreadState) × (L t ≡ some l)
 unfolding coreAt
 known-on L i [] a n t e = absurd (let z : _≡_ {A = ℕ} 0 1 = cc in omega arith)
 known-on L i (c ∷ cs) a zero t e = go (c .state) (c .exits || c .blocks) (a .0) e
@@ -175,5 +176,5 @@ known-on L i (c ∷ cs) a zero t e = go (c .state) (c .exits || c .blocks) (a .0
 known-on L i (c ∷ cs) a (suc n) t e = known-on L (suc i) cs (a .1) n t e
 
 pub held-range : (s : State) → Placed s → s .closed ≡ false → (n t : ℕ) → heldBy (s .cores) n ≡ some t → t < length (s .accounts .threads)
-unfolding CellsOK
+unfolding CoresOK
 held-range s v o n t e = let k = known-on (statesOf (s .accounts .threads)) 0 (s .cores) (v .cores o) n t e in statesOf-range (s .accounts .threads) t (k .0) (k .1)

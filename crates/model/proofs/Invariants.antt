@@ -8,11 +8,12 @@ use native.Mathlib.Omega.{arith}
 use lib.Dec.{eqb, leb}
 use lib.ListN.{length, length-map}
 use borrow.Author.Tests.{eqb-true, leb-true, leb-false}
+use Rattle.model.specs.Invariants.{All}
 use Rattle.model.specs.Types.{Policy, Off, Fifo, RoundRobin, Priority, CoreState, Idle, Switching, Running, LeaveReason, Core, Move, starts, leaves, takes, State}
 use Rattle.model.specs.Phases.{Rules, Turn, Pass, Phase, ascend, andThen, update, dispatchedState, dispatchMoves, sliced, phase1, switchedIn, isDue, phase2, leavesFor, holder, vacate, phase3, filled, phase4, handOver, wantsHandOver, phase5, phase6, phases1To4, decide, pickNext, ceilingOf, withState, unyielded}
 use Rattle.model.specs.Calls.{Call, spawn, exit, join, retired, yield, priority, timing, force, tick, close, JoinOutcome, Wait, Done, Invalid, accept, stepped, refusal, rules, exited, blocking, outcome, threadStateOf, tidOn, outOf, coreStateOf, slicedAll, unmarked, takenBy, forcedCore, markExit, markBlock, markYield, markProgress, priorityOf}
 use Rattle.model.specs.Claims.{Observed, reportsAfter, reportsCleared, reports, observed, observe, timingIs, timingKept, observeAll, refusalOf}
-use Rattle.model.proofs.PhaseLaws.{All, All2, all-update, length-update, ascend-length, ascend-all, and-l, and-r}
+use Rattle.model.proofs.PhaseLaws.{All2, all-update, length-update, ascend-length, ascend-all, and-l, and-r}
 use lib.ListN.{getElem?, replicate, length-replicate}
 use lib.Dec.{ltb}
 use borrow.Author.Tests.{ltb-false}

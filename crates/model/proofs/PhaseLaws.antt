@@ -7,14 +7,11 @@ use native.Mathlib.Omega.{arith}
 use lib.Dec.{eqb}
 use lib.ListN.{length}
 use borrow.Author.Tests.{eqb-true, eqb-false, eq-eqb, ne-eqb}
+use Rattle.model.specs.Invariants.{All}
 use Rattle.model.specs.Types.{Core, Move, starts, leaves, takes}
 use Rattle.model.specs.Phases.{Turn, Pass, Phase, ascend, andThen, update}
 use Rattle.model.specs.Calls.{coreAt}
 use Rattle.model.specs.Claims.{gets, takesOn, leavesOn}
-
-abbrev pub All : (Core → Type 0) → List Core → Type 0
-All P [] = Unit {0}
-All P (c ∷ cs) = P c × All P cs
 
 abbrev pub All2 : {A B : Type 0} → (A → B → Type 0) → List A → List B → Type 0
 All2 R [] [] = Unit {0}
@@ -114,7 +111,7 @@ leavesOn-append x (leaves t i r ∷ a) b = go (eqb i x) (leavesOn-append x a b)
     go true h = refl
     go false h = h
 
----- one cell changed
+---- one core changed
 
 pub all-update : {P : Core → Type 0} (f : Core → Core) → ((c : Core) → P c → P (f c)) → (n : ℕ) (cs : List Core) → All P cs → All P (update n f cs)
 unfolding update

@@ -8,6 +8,7 @@ use mathlib.Core.List.{List, [], _∷_, _++_, map, append-nil, append-assoc}
 use native.Mathlib.Omega.{arith}
 use lib.Dec.{eqb, leb, ltb}
 use lib.ListN.{length, getElem?, replicate, length-append}
+use Rattle.model.specs.Invariants.{All, States, Once, QueueOK, Each, Loose, OKAt, CoreOK, CoresOK, statesOf, Placed, Roomy, AllO}
 use Rattle.model.specs.Accounting.{started, applyMove, chargeThreads}
 use Rattle.model.proofs.PhaseLaws.{length-update}
 use borrow.Author.Tests.{eqb-true, eqb-false, eq-eqb, ne-eqb, leb-false, not-true, not-false}
@@ -17,12 +18,7 @@ use Rattle.model.specs.Accounting.{finished, setState, addCounts, onThre
 use Rattle.model.specs.Calls.{Call, spawn, exit, join, retired, yield, priority, timing, force, tick, close, JoinOutcome, Wait, Done, Invalid, accept, stepped, refusal, step, run, rules, check, noCore, leaving, anyLeaving, cannotTake, isIdle, isSwitching, isRunning, isNone, coreAt, coreStateOf, tidOf, tidOn, elem, threadStateOf, idleCore, exited, blocking, outcome, waiters, wake, blockedOn, markExit, markBlock, markYield, markProgress, unmarked, forcedCore, takenBy, outOf, backOf, Made, made, unmade, new, madeOf, refusedNew, initialState}
 use Rattle.model.proofs.PhaseLaws.{not-both, or-false-l, or-false-r, or-false, At}
 use Rattle.model.proofs.Invariants.{check-none}
-use Rattle.model.proofs.Preempt.{AllN, AllO}
-use Rattle.model.proofs.ThreadStates.{States, put, put-same, put-other, Once, QueueOK, push, HoldAt, HeldCore, Each, HeldCores, PassOK, PassFine, decide-held, Loose, OKAt, CellOK, CellsOK, statesOf, statesOf-same, statesOf-put, statesOf-applied, statesOf-charged, map-all, all-elem, absent, next-in, swaps, takes-h, update-held, TurnOK, after, leftL, snoc-all, snoc-once, without-out, without-once, without-all}
-
-pub record Placed (s : State) : Type 0 where
-  pub queue : QueueOK (statesOf (s .accounts .threads)) (s .queue)
-  pub cores : s .closed ≡ false → CellsOK (statesOf (s .accounts .threads)) 0 (s .cores)
+use Rattle.model.proofs.ThreadStates.{put, put-same, put-other, push, HoldAt, HeldCore, HeldCores, PassOK, PassFine, decide-held, statesOf-same, statesOf-put, statesOf-applied, statesOf-charged, map-all, all-elem, absent, next-in, swaps, takes-h, update-held, TurnOK, after, leftL, snoc-all, snoc-once, without-out, without-once, without-all}
 
 ---- what an unrefused call may count on
 
@@ -32,7 +28,7 @@ check-rest n true r e = cc
 check-rest n false r e = e
 
 -- the thread of a core that nobody left is held there
-pub held-on : (L : States) (i j m : ℕ) (cs : List Core) → m ≡ j + i → Each (CellOK L) j cs → leaving (coreAt cs i) ≡ false → isIdle (coreAt cs i .state) ≡ false → L (tidOf (holder (coreAt cs i .state))) ≡ some (OnCore m)
+pub held-on : (L : States) (i j m : ℕ) (cs : List Core) → m ≡ j + i → Each (CoreOK L) j cs → leaving (coreAt cs i) ≡ false → isIdle (coreAt cs i .state) ≡ false → L (tidOf (holder (coreAt cs i .state))) ≡ some (OnCore m)
 unfolding leaving coreAt tidOf
 held-on L i j m [] e h g d = absurd (not-both true refl d)
 held-on L zero j m (c ∷ cs) e h g d = subst (λ (k : ℕ). L (tidOf (holder (c .state))) ≡ some (OnCore k)) (omega arith) (go (c .state) (c .exits || c .blocks) (h .0) g d)
@@ -53,20 +49,20 @@ ok-move L M i (Switching t l) false f k h = f t h
 ok-move L M i (Running t s) true f k h = k t h
 ok-move L M i (Running t s) false f k h = f t h
 
-each-move : (L M : States) (i : ℕ) (cs : List Core) → ((x j : ℕ) → i ≤ j → L x ≡ some (OnCore j) → M x ≡ some (OnCore j)) → ((x : ℕ) → Loose (L x) → Loose (M x)) → Each (CellOK L) i cs → Each (CellOK M) i cs
+each-move : (L M : States) (i : ℕ) (cs : List Core) → ((x j : ℕ) → i ≤ j → L x ≡ some (OnCore j) → M x ≡ some (OnCore j)) → ((x : ℕ) → Loose (L x) → Loose (M x)) → Each (CoreOK L) i cs → Each (CoreOK M) i cs
 each-move L M i [] f k h = tt
 each-move L M i (c ∷ cs) f k h = (ok-move L M i (c .state) (c .exits || c .blocks) (λ x e. f x i (omega arith) e) k (h .0), each-move L M (suc i) cs (λ x j l e. f x j (omega arith) e) k (h .1))
 
 each-change :
     (L M : States) (f : Core → Core) (n i m : ℕ) (cs : List Core) → m ≡ i + n → ((x j : ℕ) → (j ≡ m → ⊥) → L x ≡ some (OnCore j) → M x ≡ some (OnCore j)) → ((x : ℕ) → Loose (L x) → Loose (M x))
-    → CellOK M m (f (coreAt cs n)) → Each (CellOK L) i cs → Each (CellOK M) i (update n f cs)
+    → CoreOK M m (f (coreAt cs n)) → Each (CoreOK L) i cs → Each (CoreOK M) i (update n f cs)
 unfolding update coreAt
 each-change L M f n i m [] e g k o h = tt
-each-change L M f zero i m (c ∷ cs) e g k o h = (subst (λ (j : ℕ). CellOK M j (f c)) (omega arith) o, each-move L M (suc i) cs (λ x j l p. g x j (λ z. omega arith) p) k (h .1))
+each-change L M f zero i m (c ∷ cs) e g k o h = (subst (λ (j : ℕ). CoreOK M j (f c)) (omega arith) o, each-move L M (suc i) cs (λ x j l p. g x j (λ z. omega arith) p) k (h .1))
 each-change L M f (suc n) i m (c ∷ cs) e g k o h = (ok-move L M i (c .state) (c .exits || c .blocks) (λ x p. g x i (λ z. omega arith) p) k (h .0), each-change L M f n (suc i) m cs (omega arith) g k o (h .1))
 
 -- a mark that no rule here reads
-each-mark : (L : States) (f : Core → Core) → ((i : ℕ) (c : Core) → CellOK L i c → CellOK L i (f c)) → (n i : ℕ) (cs : List Core) → Each (CellOK L) i cs → Each (CellOK L) i (update n f cs)
+each-mark : (L : States) (f : Core → Core) → ((i : ℕ) (c : Core) → CoreOK L i c → CoreOK L i (f c)) → (n i : ℕ) (cs : List Core) → Each (CoreOK L) i cs → Each (CoreOK L) i (update n f cs)
 unfolding update
 each-mark L f h n i [] a = tt
 each-mark L f h zero i (c ∷ cs) a = (h i c (a .0), a .1)
@@ -110,23 +106,23 @@ statesOf-wake e now (x ∷ w) b = statesOf-wake e now w _ ∙ ap (wakes w) (fun-
 Waiter : ℕ → ℕ → List ThreadRecord → ℕ → Type 0
 Waiter t i ts x = (d : ℕ) × (x ≡ i + d) × (statesOf ts d ≡ some (Blocked t))
 
-later-all : (t i : ℕ) (h : ThreadRecord) (ts : List ThreadRecord) (w : List ℕ) → AllN (Waiter t (suc i) ts) w → AllN (Waiter t i (h ∷ ts)) w
+later-all : (t i : ℕ) (h : ThreadRecord) (ts : List ThreadRecord) (w : List ℕ) → All (Waiter t (suc i) ts) w → All (Waiter t i (h ∷ ts)) w
 unfolding Waiter statesOf
 later-all t i h ts [] a = tt
 later-all t i h ts (x ∷ w) a = ((suc (a .0 .0), omega (arith, a .0 .1), a .0 .2), later-all t i h ts w (a .1))
 
-waiters-all : (t i : ℕ) (ts : List ThreadRecord) → AllN (Waiter t i ts) (waiters t i ts)
+waiters-all : (t i : ℕ) (ts : List ThreadRecord) → All (Waiter t i ts) (waiters t i ts)
 unfolding waiters Waiter statesOf threadStateOf
 waiters-all t i [] = tt
 waiters-all t i (h ∷ ts) = go (h .state) refl (later-all t i h ts (waiters t (suc i) ts) (waiters-all t (suc i) ts))
   where
-    go : (l : ThreadState) → h .state ≡ l → AllN (Waiter t i (h ∷ ts)) (waiters t (suc i) ts) → AllN (Waiter t i (h ∷ ts)) (cond (blockedOn t l) (i ∷ waiters t (suc i) ts) (waiters t (suc i) ts))
+    go : (l : ThreadState) → h .state ≡ l → All (Waiter t i (h ∷ ts)) (waiters t (suc i) ts) → All (Waiter t i (h ∷ ts)) (cond (blockedOn t l) (i ∷ waiters t (suc i) ts) (waiters t (suc i) ts))
     go Ready e r = r
     go Exited e r = r
     go (OnCore j) e r = r
     go (Blocked u) e r = two (eqb u t) refl
       where
-        two : (b : Bool) → eqb u t ≡ b → AllN (Waiter t i (h ∷ ts)) (cond b (i ∷ waiters t (suc i) ts) (waiters t (suc i) ts))
+        two : (b : Bool) → eqb u t ≡ b → All (Waiter t i (h ∷ ts)) (cond b (i ∷ waiters t (suc i) ts) (waiters t (suc i) ts))
         two true p = ((0, omega arith, ap some (e ∙ ap Blocked (eqb-true u t p))), r)
         two false p = r
 
@@ -135,7 +131,7 @@ unfolding waiters Waiter elem
 waiters-once t i [] = tt
 waiters-once t i (h ∷ ts) = go (blockedOn t (h .state)) (waiters-once t (suc i) ts)
   where
-    out : (w : List ℕ) → AllN (Waiter t (suc i) ts) w → elem i w ≡ false
+    out : (w : List ℕ) → All (Waiter t (suc i) ts) w → elem i w ≡ false
     out [] a = refl
     out (x ∷ w) a = or-false (eqb x i) _ (ne-eqb x i (λ e. omega (arith, a .0 .1))) (out w (a .1))
 
@@ -144,7 +140,7 @@ waiters-once t i (h ∷ ts) = go (blockedOn t (h .state)) (waiters-once t (suc i
     go false r = r
 
 -- woken threads join the back
-wake-queue : (t : ℕ) (w : List ℕ) (L : States) (q : List ℕ) → AllN (λ (x : ℕ). L x ≡ some (Blocked t)) w → Once w → QueueOK L q → QueueOK (wakes w L) (q ++ w)
+wake-queue : (t : ℕ) (w : List ℕ) (L : States) (q : List ℕ) → All (λ (x : ℕ). L x ≡ some (Blocked t)) w → Once w → QueueOK L q → QueueOK (wakes w L) (q ++ w)
 unfolding wakes
 wake-queue t [] L q a o v = subst (QueueOK L) (sym (append-nil q)) v
 wake-queue t (x ∷ w) L q a o v =
@@ -156,7 +152,7 @@ wake-queue t (x ∷ w) L q a o v =
     blocked-ready : Blocked t ≡ Ready → ⊥
     blocked-ready e = let z : _≡_ {A = ℕ} 0 1 = cc in omega arith
 
-wake-held : (t : ℕ) (w : List ℕ) (L : States) (x j : ℕ) → AllN (λ (y : ℕ). L y ≡ some (Blocked t)) w → Once w → L x ≡ some (OnCore j) → wakes w L x ≡ some (OnCore j)
+wake-held : (t : ℕ) (w : List ℕ) (L : States) (x j : ℕ) → All (λ (y : ℕ). L y ≡ some (Blocked t)) w → Once w → L x ≡ some (OnCore j) → wakes w L x ≡ some (OnCore j)
 unfolding wakes
 wake-held t [] L x j a o h = h
 wake-held t (y ∷ w) L x j a o h =
@@ -185,17 +181,17 @@ loose-core M i Idle h = tt
 loose-core M i (Switching t l) h = h
 loose-core M i (Running t s) h = h
 
-waiters-blocked : (t : ℕ) (ts : List ThreadRecord) → AllN (λ (x : ℕ). statesOf ts x ≡ some (Blocked t)) (waiters t 0 ts)
+waiters-blocked : (t : ℕ) (ts : List ThreadRecord) → All (λ (x : ℕ). statesOf ts x ≡ some (Blocked t)) (waiters t 0 ts)
 unfolding Waiter
 waiters-blocked t ts = map-all _ _ (waiters t 0 ts) (λ x e h. subst (λ (d : ℕ). statesOf ts d ≡ some (Blocked t)) (omega (arith, h .1)) (h .2)) (waiters-all t 0 ts)
 
 pub exited-placed :
-    (s : State) (i : ℕ) → statesOf (s .accounts .threads) (tidOn s i) ≡ some (OnCore i) → QueueOK (statesOf (s .accounts .threads)) (s .queue) → CellsOK (statesOf (s .accounts .threads)) 0 (s .cores)
-    → (QueueOK (statesOf (exited s i .accounts .threads)) (exited s i .queue)) × (CellsOK (statesOf (exited s i .accounts .threads)) 0 (exited s i .cores))
-unfolding exited CellsOK tidOn coreStateOf
+    (s : State) (i : ℕ) → statesOf (s .accounts .threads) (tidOn s i) ≡ some (OnCore i) → QueueOK (statesOf (s .accounts .threads)) (s .queue) → CoresOK (statesOf (s .accounts .threads)) 0 (s .cores)
+    → (QueueOK (statesOf (exited s i .accounts .threads)) (exited s i .queue)) × (CoresOK (statesOf (exited s i .accounts .threads)) 0 (exited s i .cores))
+unfolding exited CoresOK tidOn coreStateOf
 exited-placed s i ht v a = (
   subst (λ (M : States). QueueOK M (s .queue ++ w)) (sym eN) (wake-queue t w L1 (s .queue) blocked (waiters-once t 0 ts) (put-queue L t i Exited ht (s .queue) v)),
-  subst (λ (M : States). Each (CellOK M) 0 (update i markExit (s .cores))) (sym eN)
+  subst (λ (M : States). Each (CoreOK M) 0 (update i markExit (s .cores))) (sym eN)
       (each-change L (wakes w L1) markExit i 0 i (s .cores) (omega arith) (λ x j n e. wake-held t w L1 x j blocked (waiters-once t 0 ts) (put-held L t i Exited ht x j n e))
       (λ x h. wake-loose w L1 x (put-loose L t i Exited ht x h)) (loose-core (wakes w L1) i (coreAt (s .cores) i .state) (wake-loose w L1 t (subst Loose (sym (put-same t Exited (OnCore i) L ht)) tt))) a),
 )
@@ -218,8 +214,8 @@ exited-placed s i ht v a = (
     e1 : statesOf ts ≡ L1
     e1 = fun-ext (λ x. statesOf-put (finished (s .now)) Exited (λ y. unfold finished in refl) t (s .accounts .threads) x)
 
-    blocked : AllN (λ (x : ℕ). L1 x ≡ some (Blocked t)) w
-    blocked = subst (λ (M : States). AllN (λ (x : ℕ). M x ≡ some (Blocked t)) w) e1 (waiters-blocked t ts)
+    blocked : All (λ (x : ℕ). L1 x ≡ some (Blocked t)) w
+    blocked = subst (λ (M : States). All (λ (x : ℕ). M x ≡ some (Blocked t)) w) e1 (waiters-blocked t ts)
 
     eN : statesOf (wake (s .config .capE) (s .now) w (onThread t (finished (s .now)) (s .accounts)) .threads) ≡ wakes w L1
     eN = statesOf-wake (s .config .capE) (s .now) w (onThread t (finished (s .now)) (s .accounts)) ∙ ap (wakes w) e1
@@ -250,7 +246,7 @@ loose-known L M f x h = go (L x) refl h
     go none e k = absurd k
     go (some l) e k = subst Loose (sym (f x l e)) k
 
-pub held-ok : (L : States) (i : ℕ) (cs : List Core) → HeldCores L i cs → Each (CellOK L) i cs
+pub held-ok : (L : States) (i : ℕ) (cs : List Core) → HeldCores L i cs → Each (CoreOK L) i cs
 held-ok L i [] h = tt
 held-ok L i (c ∷ cs) h = (rw (h .0 .noExit, h .0 .noBlock) (go (c .state) (h .0 .held)), held-ok L (suc i) cs (h .1))
   where
@@ -260,7 +256,7 @@ held-ok L i (c ∷ cs) h = (rw (h .0 .noExit, h .0 .noBlock) (go (c .state) (h .
     go (Running t s) k = k
 
 -- nobody left: every core's thread is held there
-ok-held : (L : States) (i : ℕ) (cs : List Core) → anyLeaving cs ≡ false → Each (CellOK L) i cs → HeldCores L i cs
+ok-held : (L : States) (i : ℕ) (cs : List Core) → anyLeaving cs ≡ false → Each (CoreOK L) i cs → HeldCores L i cs
 unfolding anyLeaving leaving
 ok-held L i [] g h = tt
 ok-held L i (c ∷ cs) g h =
@@ -284,8 +280,8 @@ any-none (c ∷ cs) (suc i) e = any-none cs i (or-false-r (c .exits || c .blocks
 
 -- a forced switch
 forced :
-    (L : States) (i k t : ℕ) (cs : List Core) (q : List ℕ) (o : CoreState) → coreAt cs i .state ≡ o → isSwitching o ≡ false → anyLeaving cs ≡ false → L t ≡ some Ready → QueueOK L q → Each (CellOK L) 0 cs
-    → (QueueOK (after (outOf i o ++ dispatchMoves k t i) L) (without t (q ++ backOf o))) × (Each (CellOK (after (outOf i o ++ dispatchMoves k t i) L)) 0 (update i (forcedCore k t) cs))
+    (L : States) (i k t : ℕ) (cs : List Core) (q : List ℕ) (o : CoreState) → coreAt cs i .state ≡ o → isSwitching o ≡ false → anyLeaving cs ≡ false → L t ≡ some Ready → QueueOK L q → Each (CoreOK L) 0 cs
+    → (QueueOK (after (outOf i o ++ dispatchMoves k t i) L) (without t (q ++ backOf o))) × (Each (CoreOK (after (outOf i o ++ dispatchMoves k t i) L)) 0 (update i (forcedCore k t) cs))
 unfolding outOf backOf leftL tidOf
 forced L i k t cs q Idle e w g r v a = (
   subst (λ (l : List ℕ). QueueOK (after (dispatchMoves k t i) L) (without t l)) (sym (append-nil q)) (T idleCore .queue),
@@ -325,7 +321,7 @@ not-running (Running t s) e = refl
 -- the thread of a core that exit, join, yield and close accept
 own-held : (s : State) (i n : ℕ) (b : Bool) (r : Option ℕ) → (b ≡ false → isIdle (coreAt (s .cores) i .state) ≡ false)
     → check 4 (noCore s i) (check 11 (s .closed) (check 12 (leaving (coreAt (s .cores) i)) (check n b r))) ≡ none → Placed s → (s .closed ≡ false) × (statesOf (s .accounts .threads) (tidOn s i) ≡ some (OnCore i))
-unfolding tidOn coreStateOf CellsOK
+unfolding tidOn coreStateOf CoresOK
 own-held s i n b r f e v =
     let e4 = check-rest 4 _ _ e in
     let e11 = check-rest 11 _ _ e4 in
@@ -334,7 +330,7 @@ own-held s i n b r f e v =
     (o, held-on (statesOf (s .accounts .threads)) i 0 i (s .cores) (omega arith) (v .cores o) (check-none 12 _ _ e11) (f (check-none n b r e12)))
 
 placed-spawn : (s : State) (p : Option ℕ) (e : ℕ) → Placed s → Placed (accept s (spawn p e) .state)
-unfolding accept born logged CellsOK
+unfolding accept born logged CoresOK
 placed-spawn s p e v =
     record {
       queue = record {
@@ -367,13 +363,13 @@ placed-exit s i r v =
     record { queue = z .0; cores = λ o. z .1 }
 
 placed-join : (s : State) (i t : ℕ) (o : JoinOutcome) → refusal s (join i t) ≡ none → Placed s → Placed (blocking s i t o)
-unfolding refusal blocking coreStateOf tidOn CellsOK
+unfolding refusal blocking coreStateOf tidOn CoresOK
 placed-join s i t Done r v = v
 placed-join s i t Invalid r v = v
 placed-join s i t Wait r v =
     record {
       queue = subst (λ (M : States). QueueOK M (s .queue)) (sym eM) (put-queue L u i (Blocked t) hu (s .queue) (v .queue));
-      cores = λ o. subst (λ (M : States). Each (CellOK M) 0 (update i markBlock (s .cores))) (sym eM)
+      cores = λ o. subst (λ (M : States). Each (CoreOK M) 0 (update i markBlock (s .cores))) (sym eM)
           (each-change L (put u (Blocked t) L) markBlock i 0 i (s .cores) (omega arith) (put-held L u i (Blocked t) hu) (put-loose L u i (Blocked t) hu) (own (coreAt (s .cores) i .exits)) (v .cores (h .0)));
     }
   where
@@ -400,16 +396,16 @@ placed-join s i t Wait r v =
         or-end false = refl
 
 -- a call that changes no life
-placed-same : (s s′ : State) → statesOf (s′ .accounts .threads) ≡ statesOf (s .accounts .threads) → s′ .queue ≡ s .queue → (s′ .closed ≡ false → Each (CellOK (statesOf (s .accounts .threads))) 0 (s′ .cores)) → Placed s → Placed s′
-unfolding CellsOK
+placed-same : (s s′ : State) → statesOf (s′ .accounts .threads) ≡ statesOf (s .accounts .threads) → s′ .queue ≡ s .queue → (s′ .closed ≡ false → Each (CoreOK (statesOf (s .accounts .threads))) 0 (s′ .cores)) → Placed s → Placed s′
+unfolding CoresOK
 placed-same s s′ e q c v =
     record {
       queue = subst (λ (M : States). QueueOK M (s′ .queue)) (sym e) (subst (QueueOK (statesOf (s .accounts .threads))) (sym q) (v .queue));
-      cores = λ o. subst (λ (M : States). Each (CellOK M) 0 (s′ .cores)) (sym e) (c o);
+      cores = λ o. subst (λ (M : States). Each (CoreOK M) 0 (s′ .cores)) (sym e) (c o);
     }
 
 pub placed-force : (s : State) (i : ℕ) (n : Option ℕ) → refusal s (force i n) ≡ none → Placed s → Placed (accept s (force i n) .state)
-unfolding refusal accept coreStateOf CellsOK
+unfolding refusal accept coreStateOf CoresOK
 placed-force s i n r v =
     let r4 = check-rest 4 _ _ r in
     let r11 = check-rest 11 _ _ r4 in
@@ -419,18 +415,18 @@ placed-force s i n r v =
     let e = statesOf-applied (s .config .capE) (s .now) (outOf i (coreAt (s .cores) i .state) ++ dispatchMoves (s .config .cost) (takenBy s i n) i) (s .accounts) in
     record {
       queue = subst (λ (M : States). QueueOK M (without (takenBy s i n) (s .queue ++ backOf (coreAt (s .cores) i .state)))) (sym e) (z .0);
-      cores = λ o. subst (λ (M : States). Each (CellOK M) 0 (update i (forcedCore (s .config .cost) (takenBy s i n)) (s .cores))) (sym e) (z .1);
+      cores = λ o. subst (λ (M : States). Each (CoreOK M) 0 (update i (forcedCore (s .config .cost) (takenBy s i n)) (s .cores))) (sym e) (z .1);
     }
 
 placed-tick : (s : State) → refusal s tick ≡ none → Placed s → Placed (accept s tick .state)
-unfolding refusal accept charge CellsOK
+unfolding refusal accept charge CoresOK
 placed-tick s r v =
     let p = decide (rules s) (s .cores) (s .queue) in
     let h = decide-held (statesOf (s .accounts .threads)) (rules s) (s .cores) (s .queue) (v .cores (check-none 11 _ _ r)) (v .queue) in
     let e = statesOf-applied (s .config .capE) (s .now + 1) (p .moves) (charge (s .config .capS) (s .now) (s .cores) (s .accounts)) ∙ ap (after (p .moves)) (fun-ext (λ x. statesOf-charged (s .cores) 0 (s .accounts .threads) x)) in
     record {
       queue = subst (λ (M : States). QueueOK M (p .queue)) (sym e) (h .queue);
-      cores = λ o. subst (λ (M : States). Each (CellOK M) 0 (p .cores)) (sym e) (held-ok (after (p .moves) (statesOf (s .accounts .threads))) 0 (p .cores) (h .cores));
+      cores = λ o. subst (λ (M : States). Each (CoreOK M) 0 (p .cores)) (sym e) (held-ok (after (p .moves) (statesOf (s .accounts .threads))) 0 (p .cores) (h .cores));
     }
 
 placed-close : (s : State) (i : ℕ) → refusal s (close i) ≡ none → Placed s → Placed (accept s (close i) .state)
@@ -444,7 +440,7 @@ placed-close s i r v =
     }
 
 pub placed-accept : (s : State) (c : Call) → refusal s c ≡ none → Placed s → Placed (accept s c .state)
-unfolding accept CellsOK logged addCounts
+unfolding accept CoresOK logged addCounts
 placed-accept s (spawn p e) r v = placed-spawn s p e v
 placed-accept s (exit i) r v = placed-exit s i r v
 placed-accept s (join i t) r v = placed-join s i t (outcome (tidOn s i) t (threadStateOf (getElem? (s .accounts .threads) t))) r v
@@ -467,12 +463,12 @@ placed-run (c ∷ cs) s v = placed-run cs (step s c .state) (go (refusal s c) re
     go (some n) e = v
     go none e = placed-accept s c e v
 
-placed-idle : (L : States) (n i : ℕ) → Each (CellOK L) i (replicate n idleCore)
+placed-idle : (L : States) (n i : ℕ) → Each (CoreOK L) i (replicate n idleCore)
 placed-idle L zero i = tt
 placed-idle L (suc n) i = (tt, placed-idle L n (suc i))
 
 pub placed-new : (p : Policy) (q w n t e c entry : ℕ) (s : State) → new p q w n t e c entry ≡ made s → Placed s
-unfolding new madeOf initialState CellsOK statesOf threadStateOf started addCounts
+unfolding new madeOf initialState CoresOK statesOf threadStateOf started addCounts
 placed-new p q w n t e c entry s h = go (refusedNew q w n t e c) h
   where
     s0 : State
@@ -500,7 +496,7 @@ length-without t (h ∷ q) = go (eqb h t) (length-without t q)
     go true k = omega arith
     go false k = omega arith
 
-pigeons : (n : ℕ) (q : List ℕ) → Once q → AllN (λ (h : ℕ). h < n) q → length q ≤ n
+pigeons : (n : ℕ) (q : List ℕ) → Once q → All (λ (h : ℕ). h < n) q → length q ≤ n
 pigeons zero [] o a = omega arith
 pigeons zero (h ∷ q) o a = absurd (let l = a .0 in omega arith)
 pigeons (suc n) q o a =
@@ -534,9 +530,6 @@ length-charged : (cs : List Core) (i : ℕ) (ts : List ThreadRecord) → length 
 unfolding chargeThreads
 length-charged cs i [] = refl
 length-charged cs i (t ∷ ts) = ap suc (length-charged cs (suc i) ts)
-
-abbrev pub Roomy : State → Type 0
-Roomy s = length (s .accounts .threads) ≤ s .config .capT
 
 pub roomy-accept : (s : State) (c : Call) → refusal s c ≡ none → Roomy s → Roomy (accept s c .state)
 unfolding accept refusal logged exited blocking charge

@@ -8,37 +8,30 @@ use native.Mathlib.Omega.{arith}
 use lib.Dec.{eqb, ltb}
 use lib.ListN.{length}
 use borrow.Author.Tests.{ltb-true, ltb-false, lt-ltb, le-ltb}
+use Rattle.model.specs.Invariants.{All, AllO}
 use Rattle.model.specs.Types.{CoreState, Idle, Switching, Running, LeaveReason, Preempt, Core}
 use Rattle.model.specs.Phases.{Rules, Pass, Victim, lessUrgent, candidate, leastUrgent, update, dispatch, dispatchedState, without, moreUrgent, mostUrgent, Preemption, preemptionOf, nextPreemption, preempted, preemptRounds}
 use Rattle.model.proofs.PhaseLaws.{At}
 
 -- every entry of a queue
-abbrev pub AllN : (ℕ → Type 0) → List ℕ → Type 0
-AllN P [] = Unit {0}
-AllN P (h ∷ q) = P h × AllN P q
-
-without-all : (P : ℕ → Type 0) (t : ℕ) (q : List ℕ) → AllN P q → AllN P (without t q)
+without-all : (P : ℕ → Type 0) (t : ℕ) (q : List ℕ) → All P q → All P (without t q)
 unfolding without
 without-all P t [] a = tt
 without-all P t (h ∷ q) a = go (eqb h t) (without-all P t q (a .1))
   where
-    go : (b : Bool) → AllN P (without t q) → AllN P (cond b q (h ∷ without t q))
+    go : (b : Bool) → All P (without t q) → All P (cond b q (h ∷ without t q))
     go true r = a .1
     go false r = (a .0, r)
 
-snoc-all : (P : ℕ → Type 0) (t : ℕ) (q : List ℕ) → AllN P q → P t → AllN P (q ++ (t ∷ []))
+snoc-all : (P : ℕ → Type 0) (t : ℕ) (q : List ℕ) → All P q → P t → All P (q ++ (t ∷ []))
 snoc-all P t [] a h = (h, tt)
 snoc-all P t (g ∷ q) a h = (a .0, snoc-all P t q (a .1) h)
 
-weaken : (P Q : ℕ → Type 0) → ((h : ℕ) → P h → Q h) → (q : List ℕ) → AllN P q → AllN Q q
+weaken : (P Q : ℕ → Type 0) → ((h : ℕ) → P h → Q h) → (q : List ℕ) → All P q → All Q q
 weaken P Q f [] a = tt
 weaken P Q f (h ∷ q) a = (f h (a .0), weaken P Q f q (a .1))
 
 -- what is found, if anything
-abbrev pub AllO : {A : Type 0} → (A → Type 0) → Option A → Type 0
-AllO P none = Unit {0}
-AllO P (some x) = P x
-
 unfoldable pub IsRun : ℕ → Core → Type 0
 IsRun t c = (s : ℕ) × (c .state ≡ Running t s)
 
@@ -48,7 +41,7 @@ Stands i cs v = (j : ℕ) × (v .core ≡ i + j) × At (IsRun (v .tid)) j cs
 
 module _ (pr : ℕ → ℕ) where
   -- the most urgent one is an entry, and no entry is more urgent
-  pub urgent-in : (P : ℕ → Type 0) (q : List ℕ) → AllN P q → AllO P (mostUrgent pr q)
+  pub urgent-in : (P : ℕ → Type 0) (q : List ℕ) → All P q → AllO P (mostUrgent pr q)
   unfolding mostUrgent moreUrgent
   urgent-in P [] a = tt
   urgent-in P (h ∷ q) a = go (mostUrgent pr q) (urgent-in P q (a .1))
@@ -61,13 +54,13 @@ module _ (pr : ℕ → ℕ) where
       go none r = a .0
       go (some b) r = two b (ltb (pr b) (pr h)) r
 
-  urgent-least : (q : List ℕ) → AllO (λ (b : ℕ). AllN (λ (h : ℕ). pr b ≤ pr h) q) (mostUrgent pr q)
+  urgent-least : (q : List ℕ) → AllO (λ (b : ℕ). All (λ (h : ℕ). pr b ≤ pr h) q) (mostUrgent pr q)
   unfolding mostUrgent moreUrgent
   urgent-least [] = tt
   urgent-least (h ∷ []) = (omega arith, tt)
   urgent-least (h ∷ (g ∷ q)) = two (moreUrgent pr g (mostUrgent pr q)) (ltb (pr (moreUrgent pr g (mostUrgent pr q))) (pr h)) refl (urgent-least (g ∷ q))
     where
-      two : (b : ℕ) (u : Bool) → ltb (pr b) (pr h) ≡ u → AllN (λ (x : ℕ). pr b ≤ pr x) (g ∷ q) → AllN (λ (x : ℕ). pr (cond u b h) ≤ pr x) (h ∷ (g ∷ q))
+      two : (b : ℕ) (u : Bool) → ltb (pr b) (pr h) ≡ u → All (λ (x : ℕ). pr b ≤ pr x) (g ∷ q) → All (λ (x : ℕ). pr (cond u b h) ≤ pr x) (h ∷ (g ∷ q))
       two b true e a = (omega (arith, ltb-true (pr b) (pr h) e), a)
       two b false e a = (omega arith, weaken _ _ (λ x l. omega (arith, ltb-false (pr b) (pr h) e)) (g ∷ q) a)
 
@@ -145,7 +138,7 @@ Hot : Rules → ℕ → Pass → Type 0
 Hot k n p = AllO (λ (b : ℕ). above (k .prio) (k .prio b) (p .cores) ≤ n) (mostUrgent (k .prio) (p .queue))
 
 -- a round: nobody loses, or one core fewer runs a number above the best waiting one
-round : (k : Rules) (n : ℕ) (p : Pass) (b : ℕ) (v : Victim) → AllN (λ (h : ℕ). k .prio b ≤ k .prio h) (p .queue) → Stands 0 (p .cores) v → k .prio b < k .prio (v .tid) → above (k .prio) (k .prio b) (p .cores) ≤ suc n
+round : (k : Rules) (n : ℕ) (p : Pass) (b : ℕ) (v : Victim) → All (λ (h : ℕ). k .prio b ≤ k .prio h) (p .queue) → Stands 0 (p .cores) v → k .prio b < k .prio (v .tid) → above (k .prio) (k .prio b) (p .cores) ≤ suc n
     → Hot k n (preempted k Preempt v b p)
 unfolding Hot preempted Stands
 round k n p b v least stands less few =
@@ -163,7 +156,7 @@ round k n p b v least stands less few =
 
 -- what a swap is made on
 record Info (k : Rules) (n : ℕ) (p : Pass) (w : Preemption) : Type 0 where
-  least : AllN (λ (h : ℕ). k .prio (w .best) ≤ k .prio h) (p .queue)
+  least : All (λ (h : ℕ). k .prio (w .best) ≤ k .prio h) (p .queue)
   stands : Stands 0 (p .cores) (w .victim)
   less : k .prio (w .best) < k .prio (w .victim .tid)
   few : above (k .prio) (k .prio (w .best)) (p .cores) ≤ n
@@ -172,12 +165,12 @@ info : (k : Rules) (n : ℕ) (p : Pass) → Hot k n p → AllO (Info k n p) (nex
 unfolding nextPreemption preemptionOf Hot
 info k n p h = go (mostUrgent (k .prio) (p .queue)) (urgent-least (k .prio) (p .queue)) h (leastUrgent (k .prio) 0 (p .cores)) (leastUrgent-stands (k .prio) 0 (p .cores))
   where
-    two : (b : ℕ) (v : Victim) (u : Bool) → ltb (k .prio b) (k .prio (v .tid)) ≡ u → AllN (λ (x : ℕ). k .prio b ≤ k .prio x) (p .queue) → above (k .prio) (k .prio b) (p .cores) ≤ n → Stands 0 (p .cores) v
+    two : (b : ℕ) (v : Victim) (u : Bool) → ltb (k .prio b) (k .prio (v .tid)) ≡ u → All (λ (x : ℕ). k .prio b ≤ k .prio x) (p .queue) → above (k .prio) (k .prio b) (p .cores) ≤ n → Stands 0 (p .cores) v
         → AllO (Info k n p) (cond u (some (record { victim = v; best = b })) none)
     two b v true e l f s = record { least = l; stands = s; less = ltb-true (k .prio b) (k .prio (v .tid)) e; few = f }
     two b v false e l f s = tt
 
-    go : (o : Option ℕ) → AllO (λ (b : ℕ). AllN (λ (x : ℕ). k .prio b ≤ k .prio x) (p .queue)) o → AllO (λ (b : ℕ). above (k .prio) (k .prio b) (p .cores) ≤ n) o → (v : Option Victim) → AllO (Stands 0 (p .cores)) v
+    go : (o : Option ℕ) → AllO (λ (b : ℕ). All (λ (x : ℕ). k .prio b ≤ k .prio x) (p .queue)) o → AllO (λ (b : ℕ). above (k .prio) (k .prio b) (p .cores) ≤ n) o → (v : Option Victim) → AllO (Stands 0 (p .cores)) v
         → AllO (Info k n p) (preemptionOf (k .prio) o v)
     go none l f v s = tt
     go (some b) l f none s = tt

@@ -9,15 +9,13 @@ use native.Mathlib.Omega.{arith}
 use lib.Dec.{eqb, leb, ltb, eqb·suc-suc}
 use lib.ListN.{length, getElem?}
 use borrow.Author.Tests.{eqb-true, eqb-false, eq-eqb, ne-eqb}
+use Rattle.model.specs.Invariants.{All, States, Once, QueueOK, Each, Loose, OKAt, CoreOK, CoresOK, statesOf, AllO}
 use Rattle.model.specs.Types.{Policy, Off, Fifo, RoundRobin, Priority, CoreState, Idle, Switching, Running, LeaveReason, Exit, Block, Yield, Quantum, Preempt, Forced, Core, Move, starts, leaves, takes, ThreadState, Ready, Exited, OnCore, Blocked, ThreadRecord, Accounts, State}
 use Rattle.model.specs.Phases.{Rules, Turn, Pass, Phase, ascend, andThen, update, without, mostUrgent, moreUrgent, eligible, choose, pickNext, holder, dispatchedState, dispatchMoves, dispatch, filled, handOver, unyielded, wantsHandOver, ceilingOf, phase1, phase2, phase3, phase4, phase5, phase6, phases1To4, decide, Victim, Preemption, nextPreemption, preemptionOf, preempted, preemptRounds, leastUrgent, sliced, switchedIn, isDue, vacate, leavesFor, cleared}
 use Rattle.model.specs.Accounting.{applyMove, applyMoves, onThread, started, recordLeave, left, recordDispatch, addCounts, logged, chargeThreads, runs, holds, chargeWaiting, charge}
 use Rattle.model.specs.Calls.{threadStateOf, elem, leaving}
-use Rattle.model.proofs.PhaseLaws.{not-both, or-false-l, or-false-r, or-false, All, At}
-use Rattle.model.proofs.Preempt.{AllN, AllO, urgent-in, IsRun, Stands, leastUrgent-stands}
-
-abbrev pub States : Type 0
-States = ℕ → Option ThreadState
+use Rattle.model.proofs.PhaseLaws.{not-both, or-false-l, or-false-r, or-false, At}
+use Rattle.model.proofs.Preempt.{urgent-in, IsRun, Stands, leastUrgent-stands}
 
 ---- a thread's life set
 
@@ -38,15 +36,7 @@ put-other t x l L n = rw (ne-eqb x t n)
 
 ---- the queue
 
-abbrev pub Once : List ℕ → Type 0
-Once [] = Unit {0}
-Once (h ∷ q) = (elem h q ≡ false) × Once q
-
-pub record QueueOK (L : States) (q : List ℕ) : Type 0 where
-  pub ready : AllN (λ (h : ℕ). L h ≡ some Ready) q
-  pub once : Once q
-
-pub map-all : (P Q : ℕ → Type 0) (q : List ℕ) → ((h : ℕ) → elem h q ≡ true → P h → Q h) → AllN P q → AllN Q q
+pub map-all : (P Q : ℕ → Type 0) (q : List ℕ) → ((h : ℕ) → elem h q ≡ true → P h → Q h) → All P q → All Q q
 unfolding elem
 map-all P Q [] f a = tt
 map-all P Q (h ∷ q) f a = (f h (here h q) (a .0), map-all P Q q (λ x e p. f x (there x e) p) (a .1))
@@ -61,7 +51,7 @@ map-all P Q (h ∷ q) f a = (f h (here h q) (a .0), map-all P Q q (λ x e p. f x
         go true = refl
         go false = e
 
-pub all-elem : (P : ℕ → Type 0) (q : List ℕ) (x : ℕ) → AllN P q → elem x q ≡ true → P x
+pub all-elem : (P : ℕ → Type 0) (q : List ℕ) (x : ℕ) → All P q → elem x q ≡ true → P x
 unfolding elem
 all-elem P [] x a e = absurd (not-both false e refl)
 all-elem P (h ∷ q) x a e = go (eqb h x) refl e (λ k. all-elem P q x (a .1) k)
@@ -71,7 +61,7 @@ all-elem P (h ∷ q) x a e = go (eqb h x) refl e (λ k. all-elem P q x (a .1) k)
     go false p k ih = ih k
 
 -- a thread of another life is not in the queue
-pub absent : (L : States) (q : List ℕ) (t : ℕ) → AllN (λ (h : ℕ). L h ≡ some Ready) q → (L t ≡ some Ready → ⊥) → elem t q ≡ false
+pub absent : (L : States) (q : List ℕ) (t : ℕ) → All (λ (h : ℕ). L h ≡ some Ready) q → (L t ≡ some Ready → ⊥) → elem t q ≡ false
 absent L q t a n = go (elem t q) refl
   where
     go : (b : Bool) → elem t q ≡ b → b ≡ false
@@ -87,7 +77,7 @@ snoc-once t (h ∷ q) o n = (elem-snoc h q (o .0) (λ e. eqb-false h t (or-false
     elem-snoc h [] e m = or-false (eqb t h) false (ne-eqb t h (λ p. m (sym p))) refl
     elem-snoc h (g ∷ q) e m = or-false (eqb g h) _ (or-false-l (eqb g h) _ e) (elem-snoc h q (or-false-r (eqb g h) _ e) m)
 
-pub snoc-all : (P : ℕ → Type 0) (t : ℕ) (q : List ℕ) → AllN P q → P t → AllN P (q ++ (t ∷ []))
+pub snoc-all : (P : ℕ → Type 0) (t : ℕ) (q : List ℕ) → All P q → P t → All P (q ++ (t ∷ []))
 snoc-all P t [] a h = (h, tt)
 snoc-all P t (g ∷ q) a h = (a .0, snoc-all P t q (a .1) h)
 
@@ -119,12 +109,12 @@ without-once t (h ∷ q) o = go (eqb h t) (without-once t q (o .1))
     go true k = o .1
     go false k = (without-elem t h q (o .0), k)
 
-pub without-all : (P : ℕ → Type 0) (t : ℕ) (q : List ℕ) → AllN P q → AllN P (without t q)
+pub without-all : (P : ℕ → Type 0) (t : ℕ) (q : List ℕ) → All P q → All P (without t q)
 unfolding without
 without-all P t [] a = tt
 without-all P t (h ∷ q) a = go (eqb h t) (without-all P t q (a .1))
   where
-    go : (b : Bool) → AllN P (without t q) → AllN P (cond b q (h ∷ without t q))
+    go : (b : Bool) → All P (without t q) → All P (cond b q (h ∷ without t q))
     go true k = a .1
     go false k = (a .0, k)
 
@@ -188,21 +178,21 @@ after-dispatchMoves (suc k) t i L = refl
 
 ---- the next thread is one of the queue
 
-upTo-all : (P : ℕ → Type 0) (pr : ℕ → ℕ) (o : Option ℕ) (q : List ℕ) → AllN P q → AllN P (eligible pr o q)
+upTo-all : (P : ℕ → Type 0) (pr : ℕ → ℕ) (o : Option ℕ) (q : List ℕ) → All P q → All P (eligible pr o q)
 unfolding eligible
 upTo-all P pr none q a = a
 upTo-all P pr (some n) [] a = tt
 upTo-all P pr (some n) (h ∷ q) a = go (leb (pr h) n) (upTo-all P pr (some n) q (a .1))
   where
-    go : (b : Bool) → AllN P (eligible pr (some n) q) → AllN P (cond b (h ∷ eligible pr (some n) q) (eligible pr (some n) q))
+    go : (b : Bool) → All P (eligible pr (some n) q) → All P (cond b (h ∷ eligible pr (some n) q) (eligible pr (some n) q))
     go true k = (a .0, k)
     go false k = k
 
-pub next-in : (P : ℕ → Type 0) (k : Rules) (i : ℕ) (o : Option ℕ) (q : List ℕ) → AllN P q → AllO P (pickNext k i o q)
+pub next-in : (P : ℕ → Type 0) (k : Rules) (i : ℕ) (o : Option ℕ) (q : List ℕ) → All P q → AllO P (pickNext k i o q)
 unfolding pickNext choose
 next-in P k i o q a = go (k .policy)
   where
-    front : (l : List ℕ) → AllN P l → AllO P (head? l)
+    front : (l : List ℕ) → All P l → AllO P (head? l)
     front [] b = tt
     front (h ∷ l) b = b .0
 
@@ -225,10 +215,6 @@ pub record HeldCore (L : States) (i : ℕ) (c : Core) : Type 0 where
   pub held : HoldAt L i (c .state)
 
 -- a property of each core and its number
-abbrev pub Each : (ℕ → Core → Type 0) → ℕ → List Core → Type 0
-Each P i [] = Unit {0}
-Each P i (c ∷ cs) = P i c × Each P (suc i) cs
-
 abbrev pub HeldCores : States → ℕ → List Core → Type 0
 HeldCores L i cs = Each (HeldCore L) i cs
 
@@ -356,27 +342,6 @@ held-5 k L i c q h v = hands k L i c q (c .state) (wantsHandOver k c (c .state))
 
 ---- phases 1 to 3: nobody's life changes
 
-abbrev pub Loose : Option ThreadState → Type 0
-Loose none = ⊥
-Loose (some Ready) = Unit {0}
-Loose (some Exited) = Unit {0}
-Loose (some (Blocked u)) = Unit {0}
-Loose (some (OnCore i)) = ⊥
-
--- a core's thread is held there, or has exited or blocked in this tick (and may have been woken since)
-abbrev pub OKAt : States → ℕ → CoreState → Bool → Type 0
-OKAt L i Idle g = Unit {0}
-OKAt L i (Switching t l) false = L t ≡ some (OnCore i)
-OKAt L i (Switching t l) true = Loose (L t)
-OKAt L i (Running t s) false = L t ≡ some (OnCore i)
-OKAt L i (Running t s) true = Loose (L t)
-
-abbrev pub CellOK : States → ℕ → Core → Type 0
-CellOK L i c = OKAt L i (c .state) (c .exits || c .blocks)
-
-unfoldable pub CellsOK : States → ℕ → List Core → Type 0
-CellsOK L i cs = Each (CellOK L) i cs
-
 ok-sliced : (L : States) (i : ℕ) (s : CoreState) (g : Bool) → OKAt L i s g → OKAt L i (sliced s) g
 unfolding sliced
 ok-sliced L i Idle g h = tt
@@ -384,7 +349,7 @@ ok-sliced L i (Switching t l) g h = h
 ok-sliced L i (Running t s) true h = h
 ok-sliced L i (Running t s) false h = h
 
-ok-settled : (L : States) (i : ℕ) (c : Core) (q : List ℕ) (s : CoreState) (b : Bool) → CellOK L i c → OKAt L i s (c .exits || c .blocks) → CellOK L i (switchedIn c s b q .core)
+ok-settled : (L : States) (i : ℕ) (c : Core) (q : List ℕ) (s : CoreState) (b : Bool) → CoreOK L i c → OKAt L i s (c .exits || c .blocks) → CoreOK L i (switchedIn c s b q .core)
 unfolding switchedIn
 ok-settled L i c q Idle b h hs = h
 ok-settled L i c q (Running t s) b h hs = h
@@ -462,15 +427,15 @@ andThen-each : (P Q : ℕ → Core → Type 0) (f : Phase) → ((i : ℕ) (c : C
 unfolding andThen
 andThen-each P Q f h p a = ascend-each P Q f h (p .cores) 0 (p .queue) a
 
-up-to-3 : (L : States) (cs : List Core) (q : List ℕ) → CellsOK L 0 cs → QueueOK L q → PassFine L 0 (andThen (andThen (ascend phase1 0 cs q) phase2) phase3)
-unfolding CellsOK phase1 phase2 phase3
+up-to-3 : (L : States) (cs : List Core) (q : List ℕ) → CoresOK L 0 cs → QueueOK L q → PassFine L 0 (andThen (andThen (ascend phase1 0 cs q) phase2) phase3)
+unfolding CoresOK phase1 phase2 phase3
 up-to-3 L cs q a v =
     let s = andThen-same L q phase3 (quiet-3 L) p2 (andThen-same L q phase2 (quiet-2 L) p1 (ascend-quiet L phase1 (quiet-1 L) cs 0 q)) in
     subst (λ (M : States). PassOK L M 0 (p3 .cores) (p3 .queue)) (sym (s .0))
     (record {
-      cores = andThen-each (CellOK L) (HeldCore L) phase3 (λ i c u h. ok-vacate L i c u (c .state) (c .exits) (c .blocks) refl h) p2
-          (andThen-each (CellOK L) (CellOK L) phase2 (λ i c u h. ok-settled L i c u (c .state) _ h h) p1
-          (ascend-each (CellOK L) (CellOK L) phase1 (λ i c u h. ok-sliced L i (c .state) (c .exits || c .blocks) h) cs 0 q a));
+      cores = andThen-each (CoreOK L) (HeldCore L) phase3 (λ i c u h. ok-vacate L i c u (c .state) (c .exits) (c .blocks) refl h) p2
+          (andThen-each (CoreOK L) (CoreOK L) phase2 (λ i c u h. ok-settled L i c u (c .state) _ h h) p1
+          (ascend-each (CoreOK L) (CoreOK L) phase1 (λ i c u h. ok-sliced L i (c .state) (c .exits || c .blocks) h) cs 0 q a));
       queue = subst (QueueOK L) (sym (s .1)) v;
       frame = λ x j l e. absurd (omega arith);
     })
@@ -527,7 +492,7 @@ preemptRounds-held L k (suc n) p h = go (nextPreemption k p) (swap-in k p (λ b.
     Good : Preemption → Type 0
     Good w = (after (p .moves) L (w .best) ≡ some Ready) × Stands 0 (p .cores) (w .victim)
 
-    swap-in : (k : Rules) (p : Pass) (P : ℕ → Type 0) → AllN P (p .queue) → AllO (λ (w : Preemption). P (w .best) × Stands 0 (p .cores) (w .victim)) (nextPreemption k p)
+    swap-in : (k : Rules) (p : Pass) (P : ℕ → Type 0) → All P (p .queue) → AllO (λ (w : Preemption). P (w .best) × Stands 0 (p .cores) (w .victim)) (nextPreemption k p)
     swap-in k p P a = two (mostUrgent (k .prio) (p .queue)) (urgent-in (k .prio) P (p .queue) a) (leastUrgent (k .prio) 0 (p .cores)) (leastUrgent-stands (k .prio) 0 (p .cores))
       where
         pick : (b : ℕ) (v : Victim) (u : Bool) → P b → Stands 0 (p .cores) v → AllO (λ (w : Preemption). P (w .best) × Stands 0 (p .cores) (w .victim)) (cond u (some (record { victim = v; best = b })) none)
@@ -543,7 +508,7 @@ preemptRounds-held L k (suc n) p h = go (nextPreemption k p) (swap-in k p (λ b.
     go none i ih = h
     go (some w) i ih = ih _ (swap-pass L k Preempt (w .victim) (w .best) p (λ M. refl) h (i .1) (i .0))
 
-pub decide-held : (L : States) (k : Rules) (cs : List Core) (q : List ℕ) → CellsOK L 0 cs → QueueOK L q → PassFine L 0 (decide k cs q)
+pub decide-held : (L : States) (k : Rules) (cs : List Core) (q : List ℕ) → CoresOK L 0 cs → QueueOK L q → PassFine L 0 (decide k cs q)
 unfolding decide phases1To4 phase6
 decide-held L k cs q a v = go (k .policy) (andThen-held (phase5 k) (held-5 k) _ L (andThen-held (phase4 k) (held-4 k) _ L (up-to-3 L cs q a v)))
   where
@@ -554,9 +519,6 @@ decide-held L k cs q a v = go (k .policy) (andThen-held (phase5 k) (held-5 k) _ 
     go Priority h = preemptRounds-held L k _ _ h
 
 ---- the accounts say the same
-
-unfoldable pub statesOf : List ThreadRecord → States
-statesOf ts x = threadStateOf (getElem? ts x)
 
 pub statesOf-same : (f : ThreadRecord → ThreadRecord) → ((t : ThreadRecord) → f t .state ≡ t .state) → (n : ℕ) (ts : List ThreadRecord) (x : ℕ) → statesOf (update n f ts) x ≡ statesOf ts x
 unfolding statesOf threadStateOf update

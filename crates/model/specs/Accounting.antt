@@ -226,3 +226,10 @@ sums b =
       busy = total (λ n. n .busy) (b .ticks);
       coreTicks = total (λ n. n .busy + n .switching + n .idle) (b .ticks);
     }
+
+-- how many of the moves are dispatches: each is a context switch
+unfoldable pub takesIn : List Move → ℕ
+takesIn [] = 0
+takesIn (starts t ∷ ms) = takesIn ms
+takesIn (leaves t i r ∷ ms) = takesIn ms
+takesIn (takes t i ∷ ms) = suc (takesIn ms)

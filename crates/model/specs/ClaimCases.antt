@@ -133,6 +133,23 @@ restored-unkept : from brief true (λ s. timingKept 1 0 (unobserved s) restored)
 unfolding judge
 restored-unkept = refl
 
+-- conditions are asked of the wait alone: thread 1 gets its core within the bound, and the force that is accepted after it breaks nothing
+abbrev waited : List Call
+waited = retired 0 ∷ tick ∷ []
+
+waited-enough : from brief false (λ s. getsWithin (bound 0 1 1 0) 1 (observeAll (unobserved s) (spawn none 0 ∷ [])) waited) ≡ true
+unfolding judge
+waited-enough = refl
+
+forced-after : from brief false (λ s. waitConditions 1 0 1 (observeAll (unobserved s) (spawn none 0 ∷ [])) (waited ++ (force 0 none ∷ []))) ≡ true
+unfolding judge
+forced-after = refl
+
+-- and the force is accepted: of a wait that begins before it, it breaks the condition
+forced-breaks : from brief true (λ s. waitConditions 1 0 0 (observeAll (unobserved s) (spawn none 0 ∷ waited)) (force 0 none ∷ [])) ≡ false
+unfolding judge
+forced-breaks = refl
+
 -- who waits is judged after phase 4: before it a thread waited in both ticks, an idle core took it, and thread 0 is charged 2 in one stay
 abbrev pair : Made
 pair = at RoundRobin 1 0 2

@@ -8,3 +8,4 @@ pub mod Reading
 pub mod Claims
 pub mod Cases
 pub mod ClaimCases
+pub mod Invariants

@@ -14,6 +14,7 @@ use lib.Seq.{length-take-le}
 use Rattle.settings.specs.declared.SchedConfig.{SchedConfig}
 use Rattle.settings.specs.Reading.{policyMeant}
 use Rattle.settings.specs.Policy.{beyond}
+use Rattle.model.specs.Invariants.{Bounded}
 use Rattle.model.specs.declared.ThreadInfo.{ThreadInfo}
 use Rattle.model.specs.declared.CallAnswer.{CallAnswer}
 use Rattle.model.specs.declared.CoreState as Program
@@ -23,7 +24,7 @@ use Rattle.model.specs.Phases.{cleared}
 use Rattle.model.specs.Accounting.{newest, started, addCounts, born}
 use Rattle.model.specs.Calls.{idleCore, check, initialState, refusedNew, new, made, madeOf}
 use Rattle.model.specs.Reading.{threadMeant, coreTicksMeant}
-use Rattle.model.proofs.Bounded.{Bounded, bounded-new}
+use Rattle.model.proofs.Bounded.{bounded-new}
 use Rattle.model.proofs.Invariants.{check-none}
 use Rattle.model.proofs.Placement.{check-rest}
 use Rattle.model.proofs.PhaseLaws.{or-false-l, or-false-r}

@@ -9,13 +9,13 @@ use Rattle.text.specs.Lines.{written, commas}
 use Rattle.settings.specs.declared.Refusal.{Refusal}
 use Rattle.settings.specs.declared.Refusal.the-variants as Refusals
 use Rattle.settings.specs.Reading.{refusalNumber}
+use Rattle.script.specs.Invariants.{Modest, Consistent}
 use Rattle.model.specs.declared.Switch.{Switch}
 use Rattle.model.specs.Types.{SwitchEntry, State}
 use Rattle.model.specs.Calls.{JoinOutcome, Call, switched, step}
 use Rattle.model.specs.Reading.{optionOutMeant, optionTidMeant, switchMeant}
 use Rattle.script.specs.Report.{maybe, outTid, outReason, switchText, refusedText, joinedText, inTenths, tenths, meanText, summaryText, switchTexts, answerText}
-use Rattle.script.proofs.Lengths.{refused-length, joined-length, Modest, summaryText-length}
-use Rattle.script.proofs.Consistency.{Consistent}
+use Rattle.script.proofs.Lengths.{refused-length, joined-length, summaryText-length}
 use Rattle.script.proofs.Prints.{allowance, prints-step}
 use Rattle.summary.specs.declared.Sums as Program
 use Rattle.summary.specs.Reading.{sumsMeant}

@@ -10,13 +10,14 @@ use borrow.Author.Count.{below-none, below-more}
 use lib.Dec.{leb}
 use lib.ListN.{getD, List·getD-eq-default}
 use Rattle.settings.specs.Reading.{policyMeant}
+use Rattle.model.specs.Invariants.{All}
 use Rattle.model.specs.Types.{Core, Idle}
 use Rattle.model.specs.Phases.{isPreemptive, decide}
 use Rattle.model.specs.Calls.{slicedAll}
 use Rattle.model.specs.Reading.{coreStateMeant}
 use Rattle.model.proofs.PhaseLaws.{and-l, and-r, other, or-false-l, or-false-r, not-both}
 use Rattle.model.specs.declared.CoreState.the-variants as CoreStateCases
-use Rattle.model.proofs.Bounded.{AllL, all-snoc}
+use Rattle.model.proofs.Bounded.{all-snoc}
 use Rattle.turns.specs.Turns.{rulesOf}
 use Rattle.state.specs.declared.CoreWords.{CoreWords}
 use Rattle.state.specs.declared.Eight.{Eight}
@@ -136,7 +137,7 @@ module _ (s : Sched) (h : isQuiet s ≡ true) (r : Roomy s) where
 
 ---- the phases of a quiet state
 
-all-firsts : {A : Type 0} (P : A → Type 0) (g : ℕ → A) (n : ℕ) → ((j : ℕ) → j < n → P (g j)) → AllL P (firsts g n)
+all-firsts : {A : Type 0} (P : A → Type 0) (g : ℕ → A) (n : ℕ) → ((j : ℕ) → j < n → P (g j)) → All P (firsts g n)
 unfolding firsts
 all-firsts P g zero h = tt
 all-firsts P g (suc n) h = all-snoc P (firsts g n) (g n) (all-firsts P g n (λ j l. h j (omega arith))) (h n (omega arith))

@@ -5,13 +5,13 @@ use mathlib.Core.Bool.{Bool, true, false, _&&_}
 use mathlib.Core.List.{List, [], _∷_}
 use lib.Dec.{leb}
 use borrow.Author.Tests.{not-true}
+use Rattle.model.specs.Invariants.{All}
 use Rattle.model.specs.Types.{Policy, Off, Fifo, RoundRobin, Priority, CoreState, Idle, Switching, Running, Core}
 use Rattle.model.specs.Phases.{Rules, Pass, Phase, ascend, andThen, withState, unmoved, sliced, switchedIn, phase2, vacate, phase3, filled, phase4, quantumOf, quantumOver, handOver, phase5, phase6, phases1To4, decide, isPreemptive}
 use Rattle.model.specs.Calls.{slicedAll}
 use Rattle.model.proofs.PhaseLaws.{not-both}
 use Rattle.model.proofs.Invariants.{phase6-rests}
 use Rattle.model.proofs.LoopLaws.{ascend-phase1}
-use Rattle.model.proofs.Bounded.{AllL}
 use Rattle.quiet.specs.Quiet.{calmIn, calm, isPriority}
 
 ---- a phase that leaves a core as it is
@@ -23,12 +23,12 @@ Rests f c = (i : ℕ) (q : List ℕ) → f i c q ≡ unmoved c q
 abbrev pub still : List Core → List ℕ → Pass
 still cs q = record { cores = cs; queue = q; moves = [] }
 
-ascend-rests : (f : Phase) (cs : List Core) → AllL (Rests f) cs → (i : ℕ) (q : List ℕ) → ascend f i cs q ≡ still cs q
+ascend-rests : (f : Phase) (cs : List Core) → All (Rests f) cs → (i : ℕ) (q : List ℕ) → ascend f i cs q ≡ still cs q
 unfolding ascend
 ascend-rests f [] a i q = refl
 ascend-rests f (c ∷ cs) a i q = rw (a .0 i q, ascend-rests f cs (a .1) (suc i) q)
 
-then-rests : (f : Phase) (cs : List Core) (q : List ℕ) → AllL (Rests f) cs → andThen (still cs q) f ≡ still cs q
+then-rests : (f : Phase) (cs : List Core) (q : List ℕ) → All (Rests f) cs → andThen (still cs q) f ≡ still cs q
 unfolding andThen
 then-rests f cs q a = rw (ascend-rests f cs a 0 q)
 
@@ -71,19 +71,19 @@ calms k c h =
     let r = calm-runs (isPreemptive (k .policy)) (k .quantum) c h in
     subst (λ (d : Core). Calms k (ticked d)) (sym (r .same)) (record { two = λ i q. refl; three = λ i q. refl; four = λ i q. refl; five = λ i q. rw (r .within) })
 
-calms-all : (k : Rules) (cs : List Core) → AllL (λ (c : Core). calm (isPreemptive (k .policy)) (k .quantum) c ≡ true) cs → AllL (Calms k) (slicedAll cs)
+calms-all : (k : Rules) (cs : List Core) → All (λ (c : Core). calm (isPreemptive (k .policy)) (k .quantum) c ≡ true) cs → All (Calms k) (slicedAll cs)
 unfolding slicedAll
 calms-all k [] a = tt
 calms-all k (c ∷ cs) a = (calms k c (a .0), calms-all k cs (a .1))
 
-all-of : (P Q : Core → Type 0) → ((c : Core) → P c → Q c) → (cs : List Core) → AllL P cs → AllL Q cs
+all-of : (P Q : Core → Type 0) → ((c : Core) → P c → Q c) → (cs : List Core) → All P cs → All Q cs
 all-of P Q f [] a = tt
 all-of P Q f (c ∷ cs) a = (f c (a .0), all-of P Q f cs (a .1))
 
 ---- all six phases
 
 pub decide-calm :
-    (k : Rules) (cs : List Core) (q : List ℕ) → isPriority (k .policy) ≡ false → AllL (λ (c : Core). calm (isPreemptive (k .policy)) (k .quantum) c ≡ true) cs
+    (k : Rules) (cs : List Core) (q : List ℕ) → isPriority (k .policy) ≡ false → All (λ (c : Core). calm (isPreemptive (k .policy)) (k .quantum) c ≡ true) cs
     → decide k cs q ≡ still (slicedAll cs) q
 unfolding decide phases1To4
 decide-calm k cs q h a =

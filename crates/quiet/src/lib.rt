@@ -5,7 +5,6 @@ use settings::SchedPolicy;
 use state::CoreWords;
 use state::Eight;
 use state::Sched;
-use turns::phase5::is_preemptive;
 ghost use mathlib.Core.Path.{_≡_};
 ghost use mathlib.Core.Bool.{true, false, _||_};
 ghost use Prim.Native.Nat.{ℕ, _<_, _≤_};
@@ -114,7 +113,7 @@ pub fn is_quiet(s: Sched) -> bool
     if is_priority(policy) {
         return false;
     }
-    are_calm(s, is_preemptive(policy), config.quantum)
+    are_calm(s, policy.is_preemptive(), config.quantum)
 }
 
 // Core i of n, one tick further; a core that is not there stays as it is.

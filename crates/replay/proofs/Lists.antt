@@ -121,8 +121,8 @@ module _ (c : SchedConfig) (n : ℕ) (k : Capacities) (entry : ℕ) (words : Lis
         behind = behind-both (k .threads) (k .events) (k .segments) (coreCount n) ts ts₁ ts' qs qs qs' ps ps₁ ps' ls ls₁ ls' ws ws ws'
             (behind-new c n k entry (m .sched) ts ts₁ qs ps ps₁ ls ls₁ ws new-is (first-some c n k entry (m .sched) ts ts₁ qs ps ps₁ ls ls₁ ws new-is (created .taken e .valid)) (created .taken e .threads) (created .taken e .prios) (created .taken e .log)) (behind-as-given e (h .behind v));
         oneRun = λ before. observeAll-run before (unobserved s);
-        waits = λ rr before during whole. round-robin-bounds .0 (c .quantum) (c .«switch_cost») n (k .threads) (k .events) (k .segments) entry s (robin rr) before during;
-        stays = λ rr before during whole. round-robin-bounds .1 (c .quantum) (c .«switch_cost») n (k .threads) (k .events) (k .segments) entry s (robin rr) before during;
+        waits = λ rr before during rest whole. round-robin-bounds .0 (c .quantum) (c .«switch_cost») n (k .threads) (k .events) (k .segments) entry s (robin rr) before during;
+        stays = λ rr before during rest whole. round-robin-bounds .1 (c .quantum) (c .«switch_cost») n (k .threads) (k .events) (k .segments) entry s (robin rr) before during;
       }
     where
       s : State

@@ -62,9 +62,9 @@ pub record ReplayTaken (c : SchedConfig) (n : ℕ) (k : Capacities) (entry : ℕ
   pub behind : Behind (k .threads) (k .events) (k .segments) (coreCount n) m m'
   -- the two guarantees are read off the same run
   pub oneRun : (before : List Call) → observeAll (unobserved start) before .state ≡ run start before
-  -- "It starts from what an accepted `new` with policy rr left": wherever the list is cut, the guarantees hold of what follows
-  pub waits : policyMeant (c .policy) ≡ RoundRobin → (before during : List Call) → before ++ during ≡ cs → WaitHolds (c .quantum) (c .«switch_cost») n start before during
-  pub stays : policyMeant (c .policy) ≡ RoundRobin → (before during : List Call) → before ++ during ≡ cs → StayHolds (c .quantum) (c .«switch_cost») start before during
+  -- "It starts from what an accepted `new` with policy rr left": wherever the list is cut, the guarantees hold of what follows, as far as one likes to look: whatever comes after `during` is asked nothing
+  pub waits : policyMeant (c .policy) ≡ RoundRobin → (before during rest : List Call) → before ++ (during ++ rest) ≡ cs → WaitHolds (c .quantum) (c .«switch_cost») n start before during
+  pub stays : policyMeant (c .policy) ≡ RoundRobin → (before during rest : List Call) → before ++ (during ++ rest) ≡ cs → StayHolds (c .quantum) (c .«switch_cost») start before during
 
 -- What `replay` promises. The words are any list and `upto` is any number, so this speaks of the state and of the answer after `new` and after every call of every list.
 -- c, n, k and entry are the arguments of `new`; m is the lent memory before and m' after; r is the result.

@@ -9,6 +9,7 @@ use native.Mathlib.Omega.{arith}
 use borrow.Author.Tests.{lt-leb}
 use lib.ListN.{length, set}
 use Rattle.text.specs.Lines.{cut}
+use Rattle.script.specs.Invariants.{Kept}
 use Rattle.model.specs.declared.ThreadInfo.{ThreadInfo}
 use Rattle.model.specs.Types.{State}
 use Rattle.model.specs.Calls.{Answer, ok, check, retired, step}
@@ -22,7 +23,7 @@ use Rattle.sched_marks.specs.Change.{withProgressed}
 use Rattle.sched_marks.proofs.MarkCalls.{retired-taken}
 use Rattle.script.specs.Report as Definition
 use Rattle.script.specs.Report.{feed, feeds, said, answerText}
-use Rattle.script.proofs.Room.{Kept, feed-well}
+use Rattle.script.proofs.Room.{feed-well}
 use Rattle.feed_plan.specs.declared.Stage.{Stage}
 use Rattle.feed_plan.specs.declared.Stage.the-variants as StageCases
 use Rattle.feed_plan.specs.declared.Report.{Report}

@@ -15,6 +15,7 @@ use Rattle.text.proofs.Pieces.{cut-nil}
 use Rattle.settings.specs.declared.Refusal.the-variants as RefusalCases
 use Rattle.rcfg.specs.declared.Written.the-variants as WrittenCases
 use Rattle.rcfg.specs.declared.Head as Heads
+use Rattle.script.specs.Invariants.{Kept}
 use Rattle.model.specs.declared.ThreadInfo.{ThreadInfo}
 use Rattle.state.specs.declared.Sched.{Sched}
 use Rattle.feed_plan.specs.declared.Stage.{Stage}
@@ -23,7 +24,7 @@ use Rattle.feed_plan.specs.declared.Report.{Report}
 use Rattle.feed_plan.specs.Meant.{reportMeant}
 use Rattle.record_reads.specs.declared.totals.Totals.{Totals}
 use Rattle.script.specs.Report.{finish}
-use Rattle.script.proofs.Room.{Kept, finish-well}
+use Rattle.script.proofs.Room.{finish-well}
 use Rattle.feed_plan.specs.declared.Next.{Next}
 use Rattle.feed_plan.specs.Steps.{Prints, nextText}
 use Rattle.feed_plan.specs.Feeding.{Starts, Sayable, EndFits, EndAsked}

@@ -3,4 +3,3 @@ pub mod RingLaws
 pub mod EntryLaws
 pub mod EventLaws
 pub mod TimelineLaws
-pub mod MemoryLaws

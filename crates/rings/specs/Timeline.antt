@@ -1,7 +1,6 @@
 -- A segment in two words: end and thread in the first, start and lane in the second. So a segment that grows changes the first word only.
-use Prim.Native.Nat.{ℕ, zero, suc, _*_, _/_, _%_}
+use Prim.Native.Nat.{ℕ, zero, suc, _/_, _%_}
 use mathlib.Core.List.{List, map}
-use lib.ListN.{take, drop}
 use Rattle.model.specs.Types.{Lane, IdleLane, SwitchLane, RunLane, Segment}
 use Rattle.rings.specs.declared.RingPos.{RingPos}
 use Rattle.rings.specs.declared.ring.Entry.{Entry}
@@ -28,7 +27,3 @@ segmentFrom e = record { lane = laneFrom (e .second % 4) (e .first % 4_294_967_2
 -- the segments in a ring, oldest first
 unfoldable pub segmentsIn : List ℕ → RingPos → List Segment
 segmentsIn b p = map segmentFrom (entriesIn b p)
-
--- the words of core i's timeline, where the timelines stand one behind another with room for n segments each
-unfoldable pub timelineOf : (n i : ℕ) → List ℕ → List ℕ
-timelineOf n i lanes = take (n * 2) (drop (i * (n * 2)) lanes)

@@ -17,7 +17,7 @@ ghost use lib.ListN.{length, getElem?};
 ghost use Rattle.model.specs.Accounting.{newest, grown, sameLane};
 ghost use Rattle.model.specs.Reading.{laneMeant, segmentMeant};
 ghost use Rattle.rings.specs.Ring.{capacity, RingOK, Behind};
-ghost use Rattle.rings.specs.Timeline.{laneFrom, laneCode, laneTid, segmentFrom, segmentsIn, timelineOf};
+ghost use Rattle.rings.specs.Timeline.{laneFrom, laneCode, laneTid, segmentFrom, segmentsIn};
 
 fn lane_code(lane: Lane) -> u64
     ensures { λ r. ⌜ (r ≡ laneCode (laneMeant lane)) × (r < 3) ⌝ }
@@ -119,27 +119,6 @@ pub fn charge_lane(ring: &mut [u64], pos: RingPos, tick: Tick, lane: Lane) -> Ri
     pos
 }
 
-// The timeline of one core, among those of all in one memory: each has room for the same number of segments.
-pub fn charge_core(
-    lanes: &mut [u64],
-    segments: usize,
-    core: usize,
-    pos: RingPos,
-    tick: Tick,
-    lane: Lane,
-) -> RingPos
-    requires { ⌜ RingOK (timelineOf segments core (now lanes)) pos × (tick .0 < 4_294_967_295) ⌝ }
-    requires { ⌜ (core + 1) * (segments * 2) ≤ length (now lanes) ⌝ }
-    ensures ok { λ r. ⌜ RingOK (timelineOf segments core (now (lanes .exit))) r ⌝ }
-    ensures segments { λ r. ⌜ segmentsIn (timelineOf segments core (now (lanes .exit))) r ≡ newest segments (grown (tick .0) (laneMeant lane) (segmentsIn (timelineOf segments core (now (lanes .entry))) pos)) ⌝ }
-    ensures behind { λ r. ⌜ Behind (timelineOf segments core (now (lanes .entry))) (timelineOf segments core (now (lanes .exit))) pos r ⌝ }
-    ensures others { λ _. ⌜ ((j : ℕ) → (j ≡ core → ⊥) → timelineOf segments j (now (lanes .exit)) ≡ timelineOf segments j (now (lanes .entry))) ⌝ }
-{
-    let from = core * (segments * 2);
-    let to = from + segments * 2;
-    charge_lane(&mut lanes[from..to], pos, tick, lane)
-}
-
 // The segment k behind the oldest.
 pub fn segment_at(ring: &[u64], pos: RingPos, k: usize) -> Segment
     requires { ⌜ RingOK (now ring) pos × (k < pos .len) ⌝ }
@@ -154,21 +133,4 @@ pub fn segment_at(ring: &[u64], pos: RingPos, k: usize) -> Segment
         start: Tick(second / 4),
         end: Tick(first / 4_294_967_296),
     }
-}
-
-// The same of one core, among the timelines of all in one memory.
-pub fn core_segment_at(
-    lanes: &[u64],
-    segments: usize,
-    core: usize,
-    pos: RingPos,
-    k: usize,
-) -> Segment
-    requires { ⌜ RingOK (timelineOf segments core (now lanes)) pos × (k < pos .len) ⌝ }
-    requires { ⌜ (core + 1) * (segments * 2) ≤ length (now lanes) ⌝ }
-    ensures { λ r. ⌜ some (segmentMeant r) ≡ getElem? (segmentsIn (timelineOf segments core (now (lanes .entry))) pos) k ⌝ }
-{
-    let from = core * (segments * 2);
-    let to = from + segments * 2;
-    segment_at(&lanes[from..to], pos, k)
 }

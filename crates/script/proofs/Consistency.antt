@@ -8,25 +8,17 @@ use native.Mathlib.Omega.{arith}
 use borrow.Author.Tests.{leb-false, not-false}
 use lib.Dec.{leb, eqb}
 use lib.ListN.{length, getElem?, length-append, length-map, replicate, length-replicate}
+use Rattle.script.specs.Invariants.{In, CoreIn, QueueIn, Consistent}
+use Rattle.model.specs.Invariants.{All, Roomy, AllO}
 use Rattle.model.specs.Types.{Policy, CoreState, Idle, Switching, Running, LeaveReason, Forced, Core, Move, starts, leaves, takes, ThreadState, Ready, Exited, OnCore, Blocked, ThreadRecord, SwitchEntry, Config, Accounts, State}
 use Rattle.model.specs.Phases.{Rules, Pass, update, without, pickNext, dispatchedState, dispatchMoves, dispatch, sliced, withState, decide}
 use Rattle.model.specs.Accounting.{logged, finished, onThread, applyMoves, applyMove, chargeThreads, charge, switchList, setState}
 use Rattle.model.specs.Calls.{Call, spawn, exit, join, retired, yield, priority, timing, force, tick, close, JoinOutcome, Wait, Done, Invalid, Answer, refused, ok, spawned, joined, switched, Stepped, coreAt, elem, rules, tidOf, tidOn, threadStateOf, coreStateOf, check, refusal, cannotTake, limitNow, waiters, blockedOn, wake, exited, outcome, blocking, outOf, backOf, takenBy, forcedCore, unmarked, slicedAll, accept, markExit, markBlock, markYield, markProgress, noCore, leaving, anyLeaving, isSwitching, stepped, step}
-use Rattle.model.proofs.PhaseLaws.{All, all-update, length-update}
+use Rattle.model.proofs.PhaseLaws.{all-update, length-update}
 use Rattle.model.proofs.Invariants.{check-none}
-use Rattle.model.proofs.Preempt.{AllN, AllO}
 use Rattle.model.proofs.ThreadStates.{all-elem, snoc-all, without-all, next-in}
-use Rattle.model.proofs.Placement.{Roomy, roomy-accept}
-use Rattle.script.proofs.Range.{In, CoreIn, QueueIn, MovesIn, moves-append, in-dispatchMoves, few-dispatchMoves, PassIn, decide-in, decide-size}
-
-pub record Consistent (s : State) : Type 0 where
-  pub cores : All (CoreIn (length (s .accounts .threads))) (s .cores)
-  pub queue : QueueIn (length (s .accounts .threads)) (s .queue)
-  pub one : 1 ≤ length (s .accounts .threads)
-  pub size : length (s .cores) ≤ 8
-  pub cap : s .config .capT ≡ 256
-  pub room : Roomy s
-  pub now : s .now ≤ 4_000_000_000
+use Rattle.model.proofs.Placement.{roomy-accept}
+use Rattle.script.proofs.Range.{MovesIn, moves-append, in-dispatchMoves, few-dispatchMoves, PassIn, decide-in, decide-size}
 
 ---- more records than before
 

@@ -7,35 +7,31 @@ use mathlib.Core.List.{List, [], _∷_, _++_, map, zipWith}
 use native.Mathlib.Omega.{arith}
 use native.Mathlib.Nat.{mul-le-mul}
 use lib.ListN.{length, getElem?, length-append}
+use Rattle.script.specs.Invariants.{Modest, ThreadIn, TicksIn, Counted}
+use Rattle.model.specs.Invariants.{All, AllO}
 use Rattle.model.specs.Types.{CoreState, Idle, Switching, Running, LeaveReason, Exit, Block, Yield, Quantum, Preempt, Forced, Core, Move, starts, leaves, takes, ThreadState, Ready, Exited, OnCore, Blocked, ThreadRecord, CoreTicks, EventKind, Accounts, State}
 use Rattle.model.specs.Phases.{update, decide, dispatchMoves}
 use Rattle.model.specs.Accounting.{addCounts, orElse, started, finished, left, recordLeave, recordDispatch, born, setThreads, onThread, logged, switchedOnce, applyMove, applyMoves, chargeCore, runs, holds, chargeWaiting, chargeThreads, charge, total, since, one, Sums, sums, setState, setPriority}
 use Rattle.model.specs.Calls.{Call, spawn, exit, join, retired, yield, priority, timing, force, tick, close, JoinOutcome, Wait, Done, Invalid, tidOn, threadStateOf, coreStateOf, rules, waiters, wake, exited, outcome, blocking, outOf, takenBy, accept}
-use Rattle.model.proofs.Preempt.{AllO}
-use Rattle.script.proofs.Lengths.{Modest}
 
 ---- lists of records
 
-abbrev pub AllT : {A : Type 0} → (A → Type 0) → List A → Type 0
-AllT P [] = Unit {0}
-AllT P (x ∷ xs) = P x × AllT P xs
-
-all-update : {A : Type 0} (P : A → Type 0) (f : A → A) → ((x : A) → P x → P (f x)) → (n : ℕ) (xs : List A) → AllT P xs → AllT P (update n f xs)
+all-update : {A : Type 0} (P : A → Type 0) (f : A → A) → ((x : A) → P x → P (f x)) → (n : ℕ) (xs : List A) → All P xs → All P (update n f xs)
 unfolding update
 all-update P f h n [] a = tt
 all-update P f h zero (x ∷ xs) a = (h x (a .0), a .1)
 all-update P f h (suc n) (x ∷ xs) a = (a .0, all-update P f h n xs (a .1))
 
-all-snoc : {A : Type 0} (P : A → Type 0) (xs : List A) (y : A) → AllT P xs → P y → AllT P (xs ++ (y ∷ []))
+all-snoc : {A : Type 0} (P : A → Type 0) (xs : List A) (y : A) → All P xs → P y → All P (xs ++ (y ∷ []))
 all-snoc P [] y a h = (h, tt)
 all-snoc P (x ∷ xs) y a h = (a .0, all-snoc P xs y (a .1) h)
 
-total-all : {A : Type 0} (f : A → ℕ) (m : ℕ) (xs : List A) → AllT (λ (x : A). f x ≤ m) xs → total f xs ≤ m * length xs
+total-all : {A : Type 0} (f : A → ℕ) (m : ℕ) (xs : List A) → All (λ (x : A). f x ≤ m) xs → total f xs ≤ m * length xs
 unfolding total
 total-all f m [] a = omega arith
 total-all f m (x ∷ xs) a = omega (arith, a .0, total-all f m xs (a .1))
 
-all-imp : {A : Type 0} (P Q : A → Type 0) → ((x : A) → P x → Q x) → (xs : List A) → AllT P xs → AllT Q xs
+all-imp : {A : Type 0} (P Q : A → Type 0) → ((x : A) → P x → Q x) → (xs : List A) → All P xs → All Q xs
 all-imp P Q h [] a = tt
 all-imp P Q h (x ∷ xs) a = (h x (a .0), all-imp P Q h xs (a .1))
 
@@ -52,25 +48,8 @@ total-snoc f (x ∷ xs) y = omega (arith, total-snoc f xs y)
 
 ---- a thread's counters, a core's
 
-pub record ThreadIn (now : ℕ) (t : ThreadRecord) : Type 0 where
-  pub ready : t .counts .ready ≤ now
-  pub first : AllO (λ (x : ℕ). x ≤ now) (t .times .firstRun)
-  pub finish : AllO (λ (x : ℕ). x ≤ now + 1) (t .times .finish)
-
-pub record TicksIn (now : ℕ) (n : CoreTicks) : Type 0 where
-  pub busy : n .busy ≤ now
-  pub switching : n .switching ≤ now
-  pub idle : n .idle ≤ now
-
 abbrev preempted : ThreadRecord → ℕ
 preempted t = t .counts .preemptions
-
-pub record Counted (now moves : ℕ) (b : Accounts) : Type 0 where
-  pub threads : AllT (ThreadIn now) (b .threads)
-  pub ticks : AllT (TicksIn now) (b .ticks)
-  pub cores : length (b .ticks) ≤ 8
-  pub contextSwitches : b .contextSwitches ≤ moves
-  pub preempted : total (λ (t : ThreadRecord). t .counts .preemptions) (b .threads) ≤ moves
 
 -- a change of one record that raises its preemptions by k at most
 module _ (now M : ℕ) (b : Accounts) (h : Counted now M b) where
@@ -184,7 +163,7 @@ ran-in : (now : ℕ) (t : ThreadRecord) → ThreadIn now t → ThreadIn now (add
 unfolding addCounts
 ran-in now t h = record { ready = omega (arith, h .ready); first = h .first; finish = h .finish }
 
-charged-in : (now : ℕ) (cs : List Core) (i : ℕ) (ts : List ThreadRecord) → AllT (ThreadIn now) ts → AllT (ThreadIn (now + 1)) (chargeThreads cs i ts)
+charged-in : (now : ℕ) (cs : List Core) (i : ℕ) (ts : List ThreadRecord) → All (ThreadIn now) ts → All (ThreadIn (now + 1)) (chargeThreads cs i ts)
 unfolding chargeThreads
 charged-in now cs i [] a = tt
 charged-in now cs i (t ∷ ts) a = (go (runs i cs) (holds i cs), charged-in now cs (suc i) ts (a .1))
@@ -216,7 +195,7 @@ chargeCore-in now (Running t l) n h = record { busy = omega (arith, h .busy); sw
 abbrev chargeCores : List Core → List CoreTicks → List CoreTicks
 chargeCores cs ns = zipWith (λ (c : Core) (n : CoreTicks). chargeCore (c .state) n) cs ns
 
-tallies-in : (now : ℕ) (cs : List Core) (ns : List CoreTicks) → AllT (TicksIn now) ns → AllT (TicksIn (now + 1)) (chargeCores cs ns)
+tallies-in : (now : ℕ) (cs : List Core) (ns : List CoreTicks) → All (TicksIn now) ns → All (TicksIn (now + 1)) (chargeCores cs ns)
 unfolding zipWith
 tallies-in now [] ns a = tt
 tallies-in now (c ∷ cs) [] a = tt
@@ -329,7 +308,7 @@ one-most : (o : Option ℕ) → one o ≤ 1
 one-most none = omega arith
 one-most (some x) = omega arith
 
-all-any : {A : Type 0} (P : A → Type 0) → ((x : A) → P x) → (xs : List A) → AllT P xs
+all-any : {A : Type 0} (P : A → Type 0) → ((x : A) → P x) → (xs : List A) → All P xs
 all-any P h [] = tt
 all-any P h (x ∷ xs) = (h x, all-any P h xs)
 

@@ -8,6 +8,7 @@ use mathlib.Core.List.{List, [], _∷_, _++_}
 use native.Mathlib.Nat.{div-le-self, le-trans}
 use native.Mathlib.Omega.{arith}
 use lib.ListN.{length, length-append}
+use Rattle.script.specs.Invariants.{Modest}
 use Rattle.model.specs.Types.{LeaveReason, Exit, Block, Yield, Quantum, Preempt, Forced, Policy, Off, Fifo, RoundRobin, Priority, Out, SwitchEntry}
 use Rattle.model.specs.Accounting.{Sums}
 use Rattle.model.specs.Calls.{JoinOutcome, Wait, Done, Invalid}
@@ -116,19 +117,6 @@ mean-length sum (suc n) h =
     let small : t ≤ sum * 10 = div-le-self (sum * 10) (suc n) in
     let tens : t / 10 < 10 ^ 20 = omega arith in
     omega (arith, length-append (decimal (t / 10)) (46 ∷ decimal (t % 10)), decimal-length 19 (t / 10) tens, decimal-length 0 (t % 10) (omega arith))
-
--- all the sheet's numbers are below 10 ^ 20
-pub record Modest (n : ℕ) (s : Sums) : Type 0 where
-  pub threads : s .threads < 10 ^ 20
-  pub finished : s .finished < 10 ^ 20
-  pub now : n < 10 ^ 20
-  pub contextSwitches : s .contextSwitches < 10 ^ 20
-  pub preemptions : s .preemptions < 10 ^ 20
-  pub waiting : s .waiting < 10 ^ 20
-  pub response : s .response < 10 ^ 20
-  pub turnaround : s .turnaround < 10 ^ 20
-  pub busy : s .busy < 10 ^ 20
-  pub coreTicks : s .coreTicks < 10 ^ 20
 
 -- a line of one field
 line-length : (key : String) (f : List ℕ) (m : ℕ) → length f ≤ m → length (written key (f ∷ [])) ≤ length (ascii key) + m + 2

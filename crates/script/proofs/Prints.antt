@@ -7,17 +7,18 @@ use mathlib.Core.List.{List, [], _∷_, _++_}
 use native.Mathlib.Omega.{arith}
 use borrow.Author.Tests.{leb-false}
 use lib.ListN.{length, length-append, getElem?}
+use Rattle.script.specs.Invariants.{Consistent}
+use Rattle.model.specs.Invariants.{AllO}
 use Rattle.model.specs.Types.{CoreState, Idle, Switching, Running, Move, State}
 use Rattle.model.specs.Phases.{dispatchMoves, decide}
 use Rattle.model.specs.Accounting.{switchList}
 use Rattle.model.specs.Calls.{Call, spawn, exit, join, retired, yield, priority, timing, force, tick, close, Answer, check, refusal, cannotTake, noCore, rules, coreStateOf, tidOn, outcome, threadStateOf, outOf, takenBy, accept, stepped, step}
 use Rattle.model.proofs.Invariants.{check-none}
-use Rattle.model.proofs.Preempt.{AllO}
 use Rattle.script.specs.Report.{answerText}
 use Rattle.script.proofs.Lengths.{refused-length, joined-length, switches-length}
 use Rattle.script.proofs.Range.{MovesIn, moves-append, in-dispatchMoves, few-dispatchMoves, decide-in}
 use Rattle.script.proofs.Switches.{switchList-short, switchList-count, forced-count}
-use Rattle.script.proofs.Consistency.{Consistent, consistent-accept, taken-in, core-in, out-in, check-rest}
+use Rattle.script.proofs.Consistency.{consistent-accept, taken-in, core-in, out-in, check-rest}
 
 unfoldable pub allowance : Call → ℕ
 allowance (spawn p e) = 36

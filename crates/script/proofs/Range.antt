@@ -7,23 +7,13 @@ use mathlib.Core.List.{List, [], _∷_, _++_}
 use native.Mathlib.Omega.{arith}
 use lib.Dec.{leb, ltb}
 use lib.ListN.{length, length-append}
+use Rattle.script.specs.Invariants.{In, CoreIn, QueueIn}
+use Rattle.model.specs.Invariants.{All, AllO}
 use Rattle.model.specs.Types.{Policy, Off, Fifo, RoundRobin, Priority, CoreState, Idle, Switching, Running, LeaveReason, Preempt, Core, Move, starts, leaves, takes}
 use Rattle.model.specs.Phases.{Rules, Turn, Pass, Phase, ascend, andThen, withState, unmoved, without, mostUrgent, pickNext, dispatchedState, dispatchMoves, dispatch, sliced, phase1, switchedIn, isDue, phase2, cleared, leavesFor, holder, vacate, phase3, filled, phase4, handOver, wantsHandOver, ceilingOf, unyielded, phase5, Victim, leastUrgent, update, preempted, Preemption, preemptionOf, nextPreemption, preemptRounds, phase6, phases1To4, decide}
-use Rattle.model.proofs.PhaseLaws.{All, all-update, length-update, ascend-length, At}
-use Rattle.model.proofs.Preempt.{AllN, AllO, urgent-in, Stands, IsRun, leastUrgent-stands}
+use Rattle.model.proofs.PhaseLaws.{all-update, length-update, ascend-length, At}
+use Rattle.model.proofs.Preempt.{urgent-in, Stands, IsRun, leastUrgent-stands}
 use Rattle.model.proofs.ThreadStates.{snoc-all, without-all, next-in}
-
--- threads below N
-abbrev pub In : ℕ → CoreState → Type 0
-In N Idle = Unit {0}
-In N (Switching t l) = t < N
-In N (Running t s) = t < N
-
-abbrev pub CoreIn : ℕ → Core → Type 0
-CoreIn N c = In N (c .state)
-
-abbrev pub QueueIn : ℕ → List ℕ → Type 0
-QueueIn N q = AllN (λ (h : ℕ). h < N) q
 
 -- and cores below n
 abbrev pub MoveIn : ℕ → ℕ → Move → Type 0

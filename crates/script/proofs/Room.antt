@@ -8,24 +8,23 @@ use native.Mathlib.Omega.{arith}
 use borrow.Author.Tests.{leb-true, ltb-false}
 use lib.Dec.{leb, ltb}
 use lib.ListN.{length, length-append, replicate, length-replicate}
+use Rattle.script.specs.Invariants.{Modest, CoreIn, QueueIn, Consistent, ThreadIn, TicksIn, Counted, Sound, Kept}
+use Rattle.model.specs.Invariants.{All, AllO}
 use Rattle.model.specs.Types.{Policy, Core, CoreTicks, Config, State}
 use Rattle.model.specs.Phases.{cleared}
 use Rattle.model.specs.Accounting.{born, addCounts, started, orElse, total, sums}
 use Rattle.model.specs.Calls.{Call, spawn, exit, join, retired, yield, priority, force, tick, close, idleCore, check, refusal, beyond, refusedNew, madeOf, initialState, new, Made, made, unmade, accept, stepped, step}
-use Rattle.model.proofs.PhaseLaws.{All}
 use Rattle.model.proofs.Invariants.{check-none}
-use Rattle.model.proofs.Preempt.{AllO}
 use Rattle.text.specs.Bytes.{number}
 use Rattle.text.specs.Lines.{Read, bad, good, orBad, mapRead, both, cut, lineOf, value, keyIn, fields, needed, perhaps, one, two}
 use Rattle.settings.specs.Settings.{Settings, Head, HeadKey, PolicyKey, QuantumKey, CostKey, CoresKey, headKeys, policyOf, ranged, inOrder, setting}
 use Rattle.script.specs.Script.{Heading, more, done, upTo8, coresOf, heading, headLine, CallKey, SpawnKey, ExitKey, JoinKey, RetiredKey, YieldKey, PrioKey, ForceKey, TickKey, CloseKey, callKeys, bareTick, callOf, calling, callLine}
 use Rattle.script.specs.Report.{Stage, heads, calls, ended, over, Report, Fed, start, refusedText, answerText, summary, created, begun, headed, said, called, fed, limitLines, lineAt, feed, feeds, finishing, finish, whole, report}
-use Rattle.script.proofs.Lengths.{refused-length, Modest, summaryText-length}
-use Rattle.script.proofs.Range.{CoreIn, QueueIn}
-use Rattle.script.proofs.Consistency.{Consistent, consistent-step, check-rest}
+use Rattle.script.proofs.Lengths.{refused-length, summaryText-length}
+use Rattle.script.proofs.Consistency.{consistent-step, check-rest}
 use Rattle.script.proofs.Prints.{allowance, few-moves, prints-step, room-of, Small, small-check}
 use Rattle.script.proofs.Streams.{whole-step, whole-end}
-use Rattle.script.proofs.Counts.{AllT, ThreadIn, TicksIn, Counted, counted-accept, counted-more, modest}
+use Rattle.script.proofs.Counts.{counted-accept, counted-more, modest}
 
 ---- the reader's refusals are numbers of one digit
 
@@ -141,15 +140,11 @@ low-call l = go (keyIn callKeys l) (value l)
 
 ---- creation
 
-pub record Sound (lines : ℕ) (s : State) : Type 0 where
-  pub fine : Consistent s
-  pub counted : Counted (s .now) (144 * lines) (s .accounts)
-
 idle-cores : (N n : ℕ) → All (CoreIn N) (replicate n idleCore)
 idle-cores N zero = tt
 idle-cores N (suc n) = (tt, idle-cores N n)
 
-idle-ticks : (n : ℕ) → AllT (TicksIn 0) (replicate n (record { busy = 0; switching = 0; idle = 0 }))
+idle-ticks : (n : ℕ) → All (TicksIn 0) (replicate n (record { busy = 0; switching = 0; idle = 0 }))
 idle-ticks zero = tt
 idle-ticks (suc n) = (record { busy = omega arith; switching = omega arith; idle = omega arith }, idle-ticks n)
 
@@ -171,13 +166,6 @@ started-sound lines m k h e =
     noTicks = record { busy = 0; switching = 0; idle = 0 }
 
 ---- line by line
-
--- what a stage keeps, after so many lines
-abbrev pub Kept : ℕ → Stage → Type 0
-Kept n (heads h) = n ≤ 1_000_000_000_000
-Kept n (calls s) = (n ≤ 1_000_000_000_000) × Sound n s
-Kept n (ended s) = Modest (s .now) (sums (s .accounts))
-Kept n over = Unit {0}
 
 -- and what a line may print there
 unfoldable pub callRoom : Read Call → ℕ

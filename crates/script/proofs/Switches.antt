@@ -9,13 +9,13 @@ use native.Mathlib.Omega.{arith}
 use borrow.Author.Tests.{eqb-true, eqb-false, ne-eqb, eq-eqb}
 use lib.Dec.{eqb}
 use lib.ListN.{length, length-map}
+use Rattle.model.specs.Invariants.{All, Once}
 use Rattle.model.specs.Types.{CoreState, Idle, Switching, Running, LeaveReason, Forced, Move, starts, leaves, takes, Out, SwitchEntry}
 use Rattle.model.specs.Phases.{without, dispatchMoves}
 use Rattle.model.specs.Accounting.{touched, switchList}
 use Rattle.model.specs.Calls.{elem, outOf}
 use Rattle.model.proofs.PhaseLaws.{or-false, or-false-l, or-false-r, not-both}
-use Rattle.model.proofs.Preempt.{AllN}
-use Rattle.model.proofs.ThreadStates.{Once, map-all, without-out, without-once, without-all}
+use Rattle.model.proofs.ThreadStates.{map-all, without-out, without-once, without-all}
 use Rattle.script.specs.Report.{outTid}
 use Rattle.script.proofs.Range.{MoveIn, MovesIn}
 use Rattle.script.proofs.Lengths.{Below, Short, AllShort}
@@ -83,18 +83,18 @@ added-once i (c ∷ cs) o = go (eqb c i) refl (added-once i cs (o .1))
     go true e r = o
     go false e r = (added-elem c i cs (o .0) (turn e), r)
 
-added-all : (P : ℕ → Type 0) (i : ℕ) (cs : List ℕ) → AllN P cs → P i → AllN P (added i cs)
+added-all : (P : ℕ → Type 0) (i : ℕ) (cs : List ℕ) → All P cs → P i → All P (added i cs)
 unfolding added
 added-all P i [] a h = (h, tt)
 added-all P i (c ∷ cs) a h = go (eqb c i) (added-all P i cs (a .1) h)
   where
-    go : (b : Bool) → AllN P (added i cs) → AllN P (cond b (c ∷ cs) (c ∷ added i cs))
+    go : (b : Bool) → All P (added i cs) → All P (cond b (c ∷ cs) (c ∷ added i cs))
     go true r = a
     go false r = (a .0, r)
 
 pub record Distinct (n : ℕ) (cs : List ℕ) : Type 0 where
   pub once : Once cs
-  pub below : AllN (λ (c : ℕ). c < n) cs
+  pub below : All (λ (c : ℕ). c < n) cs
 
 touch-distinct : (n i : ℕ) (f : SwitchEntry → SwitchEntry) → ((e : SwitchEntry) → f e .core ≡ e .core) → i < n → (es : List SwitchEntry) → Distinct n (cores es) → Distinct n (cores (touched i f es))
 touch-distinct n i f k l es d = subst (Distinct n) (sym (touch-cores i f k es)) (record { once = added-once i (cores es) (d .once); below = added-all _ i (cores es) (d .below) l })
@@ -115,7 +115,7 @@ length-without t (h ∷ q) = go (eqb h t) (length-without t q)
     go true k = omega arith
     go false k = omega arith
 
-pigeons : (n : ℕ) (q : List ℕ) → Once q → AllN (λ (h : ℕ). h < n) q → length q ≤ n
+pigeons : (n : ℕ) (q : List ℕ) → Once q → All (λ (h : ℕ). h < n) q → length q ≤ n
 pigeons zero [] o a = omega arith
 pigeons zero (h ∷ q) o a = absurd (let l = a .0 in omega arith)
 pigeons (suc n) q o a =

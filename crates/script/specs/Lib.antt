@@ -3,3 +3,4 @@ pub mod Script
 pub mod Report
 pub mod Stream
 pub mod Cases
+pub mod Invariants

@@ -4,10 +4,11 @@ use mathlib.Core.Path.{_≡_, refl, sym, ap, _∙_, subst}
 use mathlib.Core.Option.{Option, none, some}
 use mathlib.Core.List.{List, map}
 use lib.ListN.{length, take}
+use Rattle.model.specs.Invariants.{Bounded}
 use Rattle.model.specs.declared.ThreadInfo.{ThreadInfo}
 use Rattle.model.specs.Types.{ThreadRecord, State}
 use Rattle.model.specs.Calls.{Call, Answer, refused, refusal, accept, stepped, step}
-use Rattle.model.proofs.Bounded.{Bounded, bounded-accept}
+use Rattle.model.proofs.Bounded.{bounded-accept}
 use Rattle.state.specs.declared.Sched.{Sched}
 use Rattle.state.specs.Memory.{memory}
 use Rattle.state.specs.Memory.{memory}

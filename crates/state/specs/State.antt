@@ -10,13 +10,13 @@ use mathlib.Core.Bool.{Bool, false}
 use mathlib.Core.List.{List, [], _∷_, _++_, map}
 use lib.ListN.{length, take, drop, getD}
 use Rattle.settings.specs.Reading.{policyMeant}
+use Rattle.model.specs.Invariants.{Bounded}
 use Rattle.model.specs.declared.CoreState as Program
 use Rattle.model.specs.declared.CoreState.the-variants as CoreStateCases
 use Rattle.model.specs.declared.ThreadInfo.{ThreadInfo}
 use Rattle.model.specs.declared.CoreTicks as Counters
 use Rattle.model.specs.Types.{Core, CoreTicks, Segment, ThreadRecord, Config, Accounts, State}
 use Rattle.model.specs.Reading.{coreStateMeant, coreTicksMeant, threadMeant}
-use Rattle.model.proofs.Bounded.{Bounded}
 unfoldable pub use Rattle.phases.specs.Cores.{firsts}
 unfoldable pub use Rattle.phases.specs.Cores.{coreAt as coreFrom}
 use Rattle.rings.specs.declared.RingPos.{RingPos}

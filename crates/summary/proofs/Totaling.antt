@@ -7,13 +7,14 @@ use native.Mathlib.Nat.{mul-le-mul}
 use native.Mathlib.Omega.{arith}
 use lib.ListN.{length, getD, take, length-map}
 use lib.Seq.{length-take-le}
+use Rattle.model.specs.Invariants.{All, Between, ThreadIn, TicksIn}
 use Rattle.model.specs.declared.ThreadInfo.{ThreadInfo}
 use Rattle.model.specs.declared.CoreTicks as Counters
 use Rattle.model.specs.Types.{ThreadRecord, CoreTicks}
 use Rattle.model.specs.Accounting.{total, one, since, Sums, sums}
 use Rattle.model.specs.Calls.{limitNow, limitSwitches}
 use Rattle.model.specs.Reading.{threadMeant, coreTicksMeant}
-use Rattle.model.proofs.Bounded.{AllL, Between, ThreadIn, TicksIn, all-map}
+use Rattle.model.proofs.Bounded.{all-map}
 use Rattle.record_reads.specs.declared.totals.Totals.{Totals}
 use Rattle.record_reads.specs.Totals.{totalsOf, TotalsFit}
 use Rattle.record_reads.proofs.Summing.{totals-fit}
@@ -32,16 +33,16 @@ unfolding total
 total-snoc f [] x = omega arith
 total-snoc f (y ∷ xs) x = omega (arith, total-snoc f xs x)
 
-total-most : {A : Type 0} (f : A → ℕ) (m : ℕ) (xs : List A) → AllL (λ (x : A). f x ≤ m) xs → total f xs ≤ m * length xs
+total-most : {A : Type 0} (f : A → ℕ) (m : ℕ) (xs : List A) → All (λ (x : A). f x ≤ m) xs → total f xs ≤ m * length xs
 unfolding total
 total-most f m [] a = omega arith
 total-most f m (x ∷ xs) a = omega (arith, a .0, total-most f m xs (a .1))
 
-all-any : {A : Type 0} (P : A → Type 0) → ((x : A) → P x) → (xs : List A) → AllL P xs
+all-any : {A : Type 0} (P : A → Type 0) → ((x : A) → P x) → (xs : List A) → All P xs
 all-any P h [] = tt
 all-any P h (x ∷ xs) = (h x, all-any P h xs)
 
-all-get : {A : Type 0} (P : A → Type 0) (xs : List A) (i : ℕ) (d : A) → i < length xs → AllL P xs → P (getD xs i d)
+all-get : {A : Type 0} (P : A → Type 0) (xs : List A) (i : ℕ) (d : A) → i < length xs → All P xs → P (getD xs i d)
 all-get P [] i d h a = absurd (omega arith)
 all-get P (x ∷ xs) zero d h a = a .0
 all-get P (x ∷ xs) (suc i) d h a = all-get P xs i d (omega arith) (a .1)
@@ -102,7 +103,7 @@ pub record Small (n : Totals) : Type 0 where
   pub response : n .response < 2 ^ 53
   pub turnaround : n .turnaround < 2 ^ 53
 
-threads-small : (now d p : ℕ) (ts : List ThreadRecord) → now ≤ 4_000_000_000 → p ≤ 136_000_000_000 → length ts ≤ 256 → AllL (ThreadIn now d p) ts → Small (totalsOf ts)
+threads-small : (now d p : ℕ) (ts : List ThreadRecord) → now ≤ 4_000_000_000 → p ≤ 136_000_000_000 → length ts ≤ 256 → All (ThreadIn now d p) ts → Small (totalsOf ts)
 unfolding totalsOf
 threads-small now d p ts hn hp ht a =
     let often : now * length ts ≤ 4_000_000_000 * 256 = mul-le-mul hn ht in

@@ -18,7 +18,7 @@ use Rattle.model.specs.Calls.{refusal, join, coreAt, coreStateOf, isIdle, isRun
 use Rattle.model.proofs.Invariants.{check-none}
 use Rattle.model.proofs.Placement.{check-rest, held-on, statesOf-range}
 use Rattle.model.proofs.PhaseLaws.{not-both}
-use Rattle.model.proofs.ThreadStates as States
+use Rattle.model.specs.Invariants as Invariants
 use Rattle.threads.specs.Slice.{threadsIn}
 use Rattle.threads.proofs.Slices.{length-threads}
 use Rattle.state.specs.declared.Sched.{Sched}
@@ -73,14 +73,14 @@ module _ (s : Sched) (ts : List ThreadInfo) (qs ps ls ws : List ℕ) (v : Valid 
   own-tid = ap (λ (c : Core). tidOf (holder (c .state))) (coreAt-firsts own (s .cores) i (core-there s i true none h))
 
   held : tidOn M i < length (M .accounts .threads)
-  unfolding tidOn coreStateOf refusal States.CellsOK
+  unfolding tidOn coreStateOf refusal Invariants.CoresOK
   held =
       let r : refusal M (join i 0) ≡ none = join-refusal s ts qs ls ws i 0 ∙ h in
       let r11 = check-rest 4 _ _ r in
       let r12 = check-rest 11 _ _ r11 in
       let r13 = check-rest 12 _ _ r12 in
       statesOf-range (M .accounts .threads) (tidOn M i) (OnCore i)
-      (held-on (States.statesOf (M .accounts .threads)) i 0 i (M .cores) (omega arith) (v .bounded .placed .cores (check-none 11 _ _ r11)) (check-none 12 _ _ r12) (not-idle (coreAt (M .cores) i .state) (check-none 13 _ _ r13)))
+      (held-on (Invariants.statesOf (M .accounts .threads)) i 0 i (M .cores) (omega arith) (v .bounded .placed .cores (check-none 11 _ _ r11)) (check-none 12 _ _ r12) (not-idle (coreAt (M .cores) i .state) (check-none 13 _ _ r13)))
 
   pub own-known : ownTid s i < s .threads
   unfolding meantAt threadsIn

@@ -79,12 +79,3 @@ wokenThreads (t ∷ w) ts = wokenThreads w (Phases.update t (setState Ready) ts)
 pub record Woken (n on : ℕ) (before after : List ThreadInfo) (len : ℕ) (queue : List ℕ) (len′ : ℕ) (queue′ : List ℕ) : Type 0 where
   pub threads : Front n (wokenThreads (waiters on 0 (threadsIn before n)) (threadsIn before n)) before after
   pub queued : Pushed (waiters on 0 (threadsIn before n)) len queue len′ queue′
-
--- the priorities of the first n threads
-unfoldable pub prioritiesIn : List ThreadInfo → ℕ → List ℕ
-prioritiesIn threads n = map (λ t. t .priority) (threadsIn threads n)
-
--- words in the front of a slice; what stands behind them is as it was
-pub record Filled (n : ℕ) (words before after : List ℕ) : Type 0 where
-  pub front : take n after ≡ words
-  pub rest : drop n after ≡ drop n before

@@ -13,7 +13,7 @@ use records::change;
 use records::change::Change;
 ghost use mathlib.Core.Path.{_≡_};
 ghost use Prim.Native.Nat.{ℕ, _+_, _<_, _≤_};
-ghost use lib.ListN.{length, getD, set};
+ghost use lib.ListN.{length, getD};
 ghost use Rattle.model.specs.Reading.{threadMeant};
 ghost use Rattle.model.specs.Accounting.{chargeThreads};
 ghost use Rattle.model.specs.Phases;
@@ -21,7 +21,7 @@ ghost use Rattle.charges.specs.Charging.{coresMeant};
 ghost use Rattle.record_moves.specs.Moves.{movesIn, movedThreads};
 ghost use Rattle.record_reads.specs.Totals.{totalsOf, TotalsFit};
 ghost use Rattle.records.specs.Changes.{changeMeant, Fits};
-ghost use Rattle.threads.specs.Slice.{blank, threadsIn, Front, AllChargeable, tidAt, MovesFit, WakeFit, Woken, prioritiesIn, Filled};
+ghost use Rattle.threads.specs.Slice.{blank, threadsIn, Front, AllChargeable, tidAt, MovesFit, WakeFit, Woken};
 
 // A copy of record i.
 pub fn record_at(threads: &[ThreadInfo], i: usize) -> ThreadInfo
@@ -29,14 +29,6 @@ pub fn record_at(threads: &[ThreadInfo], i: usize) -> ThreadInfo
     ensures { λ r. ⌜ r ≡ getD (now (threads .entry)) i blank ⌝ }
 {
     threads[i]
-}
-
-// Record i becomes t: a new thread's record, behind those that are there.
-pub fn set_record(threads: &mut [ThreadInfo], i: usize, t: ThreadInfo)
-    requires { ⌜ i < length (now threads) ⌝ }
-    ensures { λ _. ⌜ now (threads .exit) ≡ set (now (threads .entry)) i t ⌝ }
-{
-    threads[i] = t;
 }
 
 // Record i becomes what the change makes of it.
@@ -56,18 +48,6 @@ pub fn charge_all(threads: &mut [ThreadInfo], n: usize, cores: [CoreState; 8])
     let mut i = 0;
     while i < n {
         threads[i] = charge::charged(threads[i], i, on);
-        i += 1;
-    }
-}
-
-// The priorities of the first n threads, for the decisions.
-pub fn priorities(threads: &[ThreadInfo], n: usize, out: &mut [u32])
-    requires { ⌜ (n ≤ length (now threads)) × (n ≤ length (now out)) ⌝ }
-    ensures { λ _. ⌜ Filled n (prioritiesIn (now (threads .entry)) n) (now (out .entry)) (now (out .exit)) ⌝ }
-{
-    let mut i = 0;
-    while i < n {
-        out[i] = read::priority_of(threads[i]);
         i += 1;
     }
 }

@@ -17,9 +17,8 @@ use Rattle.model.specs.declared.ThreadInfo.{ThreadInfo}
 use Rattle.model.specs.declared.Tick.{Tick}
 use Rattle.model.specs.Types.{Core, Event, Move}
 use Rattle.model.specs.Phases.{Pass, decide}
-use Rattle.model.specs.Accounting.{switchList}
+use Rattle.model.specs.Accounting.{switchList, takesIn}
 use Rattle.model.specs.Reading.{coreStateMeant, switchesMeant, switchAnswerMeant}
-use Rattle.model.proofs.Bounded.{takesIn}
 use Rattle.queue.specs.Words.{decode, movesIn, NoLonger, Appended}
 use Rattle.turns.specs.Turns.{rulesOf, Short}
 use Rattle.phases.specs.Cores.{passOf, observed}

@@ -13,9 +13,8 @@ use Rattle.model.specs.declared.ThreadInfo.{ThreadInfo}
 use Rattle.model.specs.declared.Tick.{Tick}
 use Rattle.model.specs.Types.{Core, Move}
 use Rattle.model.specs.Calls.{slicedAll}
-use Rattle.model.specs.Accounting.{switchList}
+use Rattle.model.specs.Accounting.{switchList, takesIn}
 use Rattle.model.specs.Reading.{switchesMeant, switchAnswerMeant}
-use Rattle.model.proofs.Bounded.{takesIn}
 use Rattle.queue.specs.Words.{movesIn}
 use Rattle.queue.proofs.Frames.{no-longer-same}
 use Rattle.phases.specs.Cores.{passOf}

@@ -7,13 +7,14 @@ use mathlib.Core.List.{List, [], _∷_, _++_}
 use native.Mathlib.Omega.{arith}
 use lib.Dec.{ltb}
 use lib.ListN.{length}
+use Rattle.model.specs.Invariants.{All, States, statesOf, Each, Loose, OKAt, CoreOK, CoresOK, Placed, AllO}
 use Rattle.model.specs.Types.{Policy, Off, Fifo, RoundRobin, Priority, CoreState, Idle, Switching, Running, LeaveReason, Preempt, Core, Move, starts, leaves, takes, ThreadState, Ready, Exited, OnCore, Blocked, ThreadRecord, State}
 use Rattle.model.specs.Phases.{Rules, Turn, Pass, Phase, ascend, andThen, withState, unmoved, without, mostUrgent, pickNext, dispatchedState, dispatchMoves, dispatch, sliced, phase1, switchedIn, isDue, phase2, cleared, leavesFor, holder, vacate, phase3, filled, phase4, handOver, wantsHandOver, ceilingOf, unyielded, phase5, Victim, leastUrgent, update, preempted, Preemption, preemptionOf, nextPreemption, preemptRounds, phase6, phases1To4, decide}
 use Rattle.model.specs.Calls.{outOf}
-use Rattle.model.proofs.PhaseLaws.{All, all-update, At}
-use Rattle.model.proofs.Preempt.{AllN, AllO, urgent-in, Stands, IsRun, leastUrgent-stands}
-use Rattle.model.proofs.ThreadStates.{States, snoc-all, without-all, next-in, map-all, statesOf, Each, Loose, OKAt, CellOK, CellsOK}
-use Rattle.model.proofs.Placement.{Placed, statesOf-range}
+use Rattle.model.proofs.PhaseLaws.{all-update, At}
+use Rattle.model.proofs.Preempt.{urgent-in, Stands, IsRun, leastUrgent-stands}
+use Rattle.model.proofs.ThreadStates.{snoc-all, without-all, next-in, map-all}
+use Rattle.model.proofs.Placement.{statesOf-range}
 use Rattle.record_moves.specs.Moves.{moveTid}
 
 -- threads below N
@@ -26,7 +27,7 @@ abbrev pub CoreIn : ℕ → Core → Type 0
 CoreIn N c = In N (c .state)
 
 abbrev pub QueueIn : ℕ → List ℕ → Type 0
-QueueIn N q = AllN (λ (h : ℕ). h < N) q
+QueueIn N q = All (λ (h : ℕ). h < N) q
 
 abbrev pub MovesIn : ℕ → List Move → Type 0
 MovesIn N [] = Unit {0}
@@ -219,12 +220,12 @@ module _ (ts : List ThreadRecord) where
   core-in i (Running t s) false h = statesOf-range ts t _ h
   core-in i (Running t s) true h = loose-in t h
 
-  cores-in : (i : ℕ) (cs : List Core) → Each (CellOK (statesOf ts)) i cs → All (CoreIn (length ts)) cs
+  cores-in : (i : ℕ) (cs : List Core) → Each (CoreOK (statesOf ts)) i cs → All (CoreIn (length ts)) cs
   cores-in i [] h = tt
   cores-in i (c ∷ cs) h = (core-in i (c .state) (c .exits || c .blocks) (h .0), cores-in (suc i) cs (h .1))
 
 pub placed-cores : (s : State) → Placed s → s .closed ≡ false → All (CoreIn (length (s .accounts .threads))) (s .cores)
-unfolding CellsOK
+unfolding CoresOK
 placed-cores s p e = cores-in (s .accounts .threads) 0 (s .cores) (p .cores e)
 
 pub placed-queue : (s : State) → Placed s → QueueIn (length (s .accounts .threads)) (s .queue)

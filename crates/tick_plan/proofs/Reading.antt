@@ -9,16 +9,15 @@ use native.Mathlib.Nat.{add-zero}
 use native.Mathlib.Numerals.{add-one}
 use lib.ListN.{length, take, drop, getD, getElem?, replicate, length-map, length-take, length-drop, replicate-append-replicate}
 use lib.Seq.{drop-drop, length-take-le}
+use Rattle.model.specs.Invariants.{All, CoreStateIn}
 use Rattle.model.specs.declared.CoreState as Program
 use Rattle.model.specs.declared.CoreState.the-variants as CoreStateCases
 use Rattle.model.specs.declared.ThreadInfo.{ThreadInfo}
 use Rattle.model.specs.Types.{CoreState, Idle, Switching, Running, LeaveReason, Exit, Block, Yield, Quantum, Preempt, Forced, Core, Move, starts, leaves, takes, ThreadState, Ready, Exited, OnCore, Blocked, ThreadRecord}
 use Rattle.model.specs.Phases.{update}
-use Rattle.model.specs.Accounting.{addCounts, started, left, recordLeave, recordDispatch, runs, holds, chargeWaiting, chargeThreads}
+use Rattle.model.specs.Accounting.{addCounts, started, left, recordLeave, recordDispatch, runs, holds, chargeWaiting, chargeThreads, takesIn}
 use Rattle.model.specs.Calls.{priorityOf, idleCore}
 use Rattle.model.specs.Reading.{coreStateMeant, threadMeant}
-use Rattle.model.proofs.PhaseLaws.{All}
-use Rattle.model.proofs.Bounded.{AllL, CoreStateIn, takesIn}
 use Rattle.queue.specs.Words.{decode, movesIn}
 use Rattle.turns.specs.Turns.{Short}
 use Rattle.record_moves.specs.Moves.{moveTid, movedThread, movedThreads}
@@ -31,7 +30,7 @@ use Rattle.tick_plan.proofs.Range.{MovesIn}
 
 ---- lists
 
-pub all-list : (P : Core → Type 0) (cs : List Core) → All P cs → AllL P cs
+pub all-list : (P : Core → Type 0) (cs : List Core) → All P cs → All P cs
 all-list P [] a = tt
 all-list P (c ∷ cs) a = (a .0, all-list P cs (a .1))
 

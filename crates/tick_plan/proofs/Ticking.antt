@@ -10,6 +10,7 @@ use lib.ListN.{length, take, drop, getD, getElem?}
 use lib.Seq.{length-take-le}
 use Rattle.settings.specs.declared.Refusal.{Refusal}
 use Rattle.settings.specs.Reading.{refusalNumber}
+use Rattle.model.specs.Invariants.{All, ThreadIn, CoreStateIn}
 use Rattle.model.specs.declared.SwitchWords.{SwitchWords}
 use Rattle.model.specs.declared.CallAnswer.{CallAnswer}
 use Rattle.model.specs.declared.CallAnswer.the-variants as CallCases
@@ -18,12 +19,12 @@ use Rattle.model.specs.declared.ThreadInfo.{ThreadInfo}
 use Rattle.model.specs.declared.Tick.{Tick}
 use Rattle.model.specs.Types.{Core, Move, Event, Segment, CoreTicks, SwitchEntry, ThreadRecord, Accounts, State}
 use Rattle.model.specs.Phases.{Rules, Pass, decide}
-use Rattle.model.specs.Accounting.{chargeThreads, charge, applyMoves, switchList}
+use Rattle.model.specs.Accounting.{chargeThreads, charge, applyMoves, switchList, takesIn}
 use Rattle.model.specs.Calls.{Answer, refused, switched, rules, priorityOf, refusal, accept, check, charged, tick, limitNow, limitSwitches}
 use Rattle.model.specs.Reading.{coreStateMeant, threadMeant, switchesMeant, switchAnswerMeant}
 use Rattle.model.proofs.Invariants.{check-none}
 use Rattle.model.proofs.Placement.{check-rest}
-use Rattle.model.proofs.Bounded.{AllL, all-at, ThreadIn, charged-in, CoreStateIn, takesIn, applied-ticks, applied-switches, switches-figure}
+use Rattle.model.proofs.Bounded.{all-at, charged-in, applied-ticks, applied-switches, switches-figure}
 use Rattle.queue.specs.Words.{movesIn}
 use Rattle.turns.specs.Turns.{rulesOf}
 use Rattle.phases.specs.Cores.{passOf, observed}
@@ -215,8 +216,8 @@ module _ (s : Sched) (ts : List ThreadInfo) (qs ps ls ws : List ℕ) (v : Valid 
               room = λ k l. roomy (tidAt ws' k) (known k l);
             }
           where
-            all : AllL (ThreadIn (s .now .0 + 1) (s .«context_switches» + 1) (s .«context_switches»)) (threadsIn ts₁ (s .threads))
-            all = subst (AllL (ThreadIn (s .now .0 + 1) (s .«context_switches» + 1) (s .«context_switches»))) (sym charged-threads) (charged-in (s .now .0) (s .«context_switches» + 1) (s .«context_switches») (M .cores) 0 (M .accounts .threads) (v .bounded .threads))
+            all : All (ThreadIn (s .now .0 + 1) (s .«context_switches» + 1) (s .«context_switches»)) (threadsIn ts₁ (s .threads))
+            all = subst (All (ThreadIn (s .now .0 + 1) (s .«context_switches» + 1) (s .«context_switches»))) (sym charged-threads) (charged-in (s .now .0) (s .«context_switches» + 1) (s .«context_switches») (M .cores) 0 (M .accounts .threads) (v .bounded .threads))
 
             roomy : (x : ℕ) → x < s .threads → MoveRoom (p .moves) (threadMeant (getD ts₁ x blank))
             roomy x l =

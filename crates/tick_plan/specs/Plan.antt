@@ -9,10 +9,9 @@ use Rattle.model.specs.declared.ThreadInfo.{ThreadInfo}
 use Rattle.model.specs.declared.Tick.{Tick}
 use Rattle.model.specs.Types.{Move}
 use Rattle.model.specs.Phases.{decide}
-use Rattle.model.specs.Accounting.{chargeThreads, switchList}
+use Rattle.model.specs.Accounting.{chargeThreads, switchList, takesIn}
 use Rattle.model.specs.Calls.{Answer, tick}
 use Rattle.model.specs.Reading.{coreStateMeant, switchesMeant}
-use Rattle.model.proofs.Bounded.{takesIn}
 use Rattle.queue.specs.Words.{movesIn, NoLonger}
 use Rattle.turns.specs.Turns.{rulesOf, Short}
 use Rattle.phases.specs.Cores.{observed}

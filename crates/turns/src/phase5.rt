@@ -18,17 +18,6 @@ ghost use Rattle.queue.specs.Words.{movesIn, Appended, NoLonger};
 ghost use Rattle.queue.specs.Ready.{prioOf};
 ghost use Rattle.turns.specs.Turns.{coreOf, rulesOf, Turned, Besides, hasTurn};
 
-pub fn is_preemptive(policy: SchedPolicy) -> bool
-    ensures { λ r. ⌜ r ≡ isPreemptive (policyMeant policy) ⌝ }
-{
-    match policy {
-        SchedPolicy::Off => false,
-        SchedPolicy::Fifo => false,
-        SchedPolicy::RoundRobin => true,
-        SchedPolicy::Priority => true,
-    }
-}
-
 // Whether a running core is to hand over.
 pub fn wants_hand_over(
     yields: bool,
@@ -42,7 +31,7 @@ pub fn wants_hand_over(
     if yields {
         return true;
     }
-    if !is_preemptive(policy) {
+    if !policy.is_preemptive() {
         return false;
     }
     if slice < quantum {

@@ -7,7 +7,7 @@ use borrow.Author.Tests.{le-leb, lt-leb}
 use Rattle.model.specs.declared.CoreState as Program
 use Rattle.model.specs.Calls.{isSwitching, limitSwitches}
 use Rattle.model.specs.Reading.{coreStateMeant}
-use Rattle.decide.proofs.Asked.{absent}
+use Rattle.decide.specs.Forced.{absent}
 use Rattle.checks.proofs.Ladder.{hit, pass}
 use Rattle.force_plan.specs.Plan.{forceRefusal}
 use Rattle.force_plan.proofs.check_force.Statement.{statement}

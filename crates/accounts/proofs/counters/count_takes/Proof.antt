@@ -2,7 +2,7 @@ use borrow.Author.Needs.{needs}
 use native.Mathlib.Omega.{arith}
 use Prim.Native.Nat.{_-_, _≤_}
 use mathlib.Core.Path.{_≡_}
-use Rattle.model.proofs.Bounded.{takesIn}
+use Rattle.model.specs.Accounting.{takesIn}
 use Rattle.queue.specs.Words.{movesIn}
 use Rattle.accounts.proofs.Counting.{takes-none, takes-next}
 use Rattle.accounts.proofs.counters.count_takes.Statement.{statement}
