@@ -1,3 +1,4 @@
+pub mod Chains
 pub mod Encoded
 pub mod Framed
 pub mod Lists
