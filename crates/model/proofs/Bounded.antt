@@ -14,9 +14,9 @@ use Rattle.model.specs.Types.{Policy, Off, Fifo, RoundRobin, Priority, C
 use Rattle.model.specs.Types.{ThreadState, Ready, Exited, OnCore, Blocked, Times, Counts, ThreadRecord, CoreTicks, Segment, Event, EventKind, Config, Accounts, State}
 use Rattle.model.specs.Phases.{Rules, Turn, Pass, Phase, ascend, andThen, update, dispatchedState, dispatchMoves, dispatch, sliced, phase1, switchedIn, isDue, phase2, leavesFor, holder, vacate, phase3, filled, phase4, handOver, wantsHandOver, ceilingOf, unyielded, phase5, phase6, phases1To4, decide, pickNext, withState, cleared, Victim, Preemption, nextPreemption, preempted, preemptRounds}
 use Rattle.model.specs.Accounting.{setState, setPriority, addCounts, orElse, started, finished, left, recordLeave, recordDispatch, born, setThreads, onThread, logged, applyMove, applyMoves, chargeCore, runs, holds, chargeWaiting, chargeThreads, charge, newest, grown, laneOf, takesIn}
-use Rattle.model.specs.Calls.{Call, spawn, exit, join, retired, yield, priority, timing, force, tick, close, JoinOutcome, Wait, Done, Invalid, accept, stepped, refusal, step, run, rules, check, noCore, leaving, anyLeaving, cannotTake, limitNow, limitSwitches, badTiming, coreStateOf, coreAt, tidOn, threadStateOf, yieldsOf, exited, blocking, outcome, waiters, wake, markExit, markBlock, markYield, markProgress, unmarked, forcedCore, takenBy, outOf, slicedAll, priorityOf, parentOf, idleCore, Made, made, unmade, new, madeOf, refusedNew, initialState, beyond}
+use Rattle.model.specs.Calls.{Call, spawn, exit, join, retired, yield, priority, timing, force, tick, close, JoinOutcome, Wait, Done, Invalid, accept, stepped, refusal, step, run, rules, noCore, leaving, anyLeaving, cannotTake, limitNow, limitSwitches, badTiming, coreStateOf, coreAt, tidOn, threadStateOf, yieldsOf, exited, blocking, outcome, waiters, wake, markExit, markBlock, markYield, markProgress, unmarked, forcedCore, takenBy, outOf, slicedAll, priorityOf, parentOf, idleCore, Made, made, unmade, new, madeOf, refusedNew, initialState, beyond}
 use Rattle.model.proofs.PhaseLaws.{all-update, length-update, ascend-length, ascend-all, or-false-l, or-false-r, not-both}
-use Rattle.model.proofs.Invariants.{check-none}
+use Rattle.model.proofs.Refusals.{check-none, check-rest}
 use Rattle.model.proofs.Placement.{placed-accept, placed-new, roomy-accept}
 
 ---- lists
@@ -524,11 +524,6 @@ decide-in now k cs q w a = go (k .policy)
     go Priority = preemptRounds-in (now + 1) k _ _ w five
 
 ---- a call
-
-check-rest : (n : ℕ) (b : Bool) (r : Option ℕ) → check n b r ≡ none → r ≡ none
-unfolding check
-check-rest n true r e = cc
-check-rest n false r e = e
 
 pub accept-cores : (s : State) (c : Call) → length (accept s c .state .cores) ≡ length (s .cores)
 unfolding accept blocking exited slicedAll

@@ -17,15 +17,10 @@ use Rattle.model.specs.Phases.{Rules, Pass, update, without, pickNext, h
 use Rattle.model.specs.Accounting.{finished, setState, addCounts, onThread, logged, applyMoves, charge, born, setPriority}
 use Rattle.model.specs.Calls.{Call, spawn, exit, join, retired, yield, priority, timing, force, tick, close, JoinOutcome, Wait, Done, Invalid, accept, stepped, refusal, step, run, rules, check, noCore, leaving, anyLeaving, cannotTake, isIdle, isSwitching, isRunning, isNone, coreAt, coreStateOf, tidOf, tidOn, elem, threadStateOf, idleCore, exited, blocking, outcome, waiters, wake, blockedOn, markExit, markBlock, markYield, markProgress, unmarked, forcedCore, takenBy, outOf, backOf, Made, made, unmade, new, madeOf, refusedNew, initialState}
 use Rattle.model.proofs.PhaseLaws.{not-both, or-false-l, or-false-r, or-false, At}
-use Rattle.model.proofs.Invariants.{check-none}
+use Rattle.model.proofs.Refusals.{check-none, check-rest}
 use Rattle.model.proofs.ThreadStates.{put, put-same, put-other, push, HoldAt, HeldCore, HeldCores, PassOK, PassFine, decide-held, statesOf-same, statesOf-put, statesOf-applied, statesOf-charged, map-all, all-elem, absent, next-in, swaps, takes-h, update-held, TurnOK, after, leftL, snoc-all, snoc-once, without-out, without-once, without-all}
 
 ---- what an unrefused call may count on
-
-pub check-rest : (n : ℕ) (b : Bool) (r : Option ℕ) → check n b r ≡ none → r ≡ none
-unfolding check
-check-rest n true r e = cc
-check-rest n false r e = e
 
 -- the thread of a core that nobody left is held there
 pub held-on : (L : States) (i j m : ℕ) (cs : List Core) → m ≡ j + i → Each (CoreOK L) j cs → leaving (coreAt cs i) ≡ false → isIdle (coreAt cs i .state) ≡ false → L (tidOf (holder (coreAt cs i .state))) ≡ some (OnCore m)
@@ -557,3 +552,31 @@ roomy-run (c ∷ cs) s h = roomy-run cs (step s c .state) (go (refusal s c) refl
     go : (r : Option ℕ) → refusal s c ≡ r → Roomy (stepped s c r .state)
     go (some n) e = h
     go none e = roomy-accept s c e h
+
+---- threads are made and never unmade
+
+threads-accept : (s : State) (c : Call) → length (s .accounts .threads) ≤ length (accept s c .state .accounts .threads)
+unfolding accept logged exited blocking charge
+threads-accept s (spawn p e) = rw length-append (omega arith)
+threads-accept s (exit i) = rw (length-wake, length-update) (omega arith)
+threads-accept s (join i t) = go (outcome (tidOn s i) t (threadStateOf (getElem? (s .accounts .threads) t)))
+  where
+    go : (o : JoinOutcome) → length (s .accounts .threads) ≤ length (blocking s i t o .accounts .threads)
+    go Done = omega arith
+    go Invalid = omega arith
+    go Wait = rw length-update (omega arith)
+threads-accept s (retired i) = omega arith
+threads-accept s (yield i) = rw length-update (omega arith)
+threads-accept s (priority t n) = rw length-update (omega arith)
+threads-accept s (timing q w) = omega arith
+threads-accept s (force i n) = rw length-applied (omega arith)
+threads-accept s tick = rw (length-applied, length-charged) (omega arith)
+threads-accept s (close i) = rw (length-charged, length-wake, length-update) (omega arith)
+
+pub threads-grow : (s : State) (c : Call) → length (s .accounts .threads) ≤ length (step s c .state .accounts .threads)
+unfolding step stepped
+threads-grow s c = go (refusal s c)
+  where
+    go : (r : Option ℕ) → length (s .accounts .threads) ≤ length (stepped s c r .state .accounts .threads)
+    go (some n) = omega arith
+    go none = threads-accept s c

@@ -12,57 +12,57 @@ use Rattle.model.specs.Phases.{update, holder}
 
 -- the newest n of a list. 01: "The Rust keeps 512 and 4,096; the port's list equals the newest E or S of the Rust's."
 unfoldable pub newest {ℓ} : {A : Type ℓ} → ℕ → List A → List A
-newest n l = drop (length l - n) l
+newest n xs = drop (length xs - n) xs
 
 ---- one thread's record
 
 abbrev pub setState : ThreadState → ThreadRecord → ThreadRecord
-setState v t = record { tid = t .tid; parent = t .parent; entry = t .entry; priority = t .priority; state = v; last = t .last; times = t .times; counts = t .counts }
+setState state thread = record { tid = thread .tid; parent = thread .parent; entry = thread .entry; priority = thread .priority; state = state; last = thread .last; times = thread .times; counts = thread .counts }
 
 abbrev pub setPriority : ℕ → ThreadRecord → ThreadRecord
-setPriority n t = record { tid = t .tid; parent = t .parent; entry = t .entry; priority = n; state = t .state; last = t .last; times = t .times; counts = t .counts }
+setPriority n thread = record { tid = thread .tid; parent = thread .parent; entry = thread .entry; priority = n; state = thread .state; last = thread .last; times = thread .times; counts = thread .counts }
 
 abbrev pub setLast : Last → ThreadRecord → ThreadRecord
-setLast v t = record { tid = t .tid; parent = t .parent; entry = t .entry; priority = t .priority; state = t .state; last = v; times = t .times; counts = t .counts }
+setLast last thread = record { tid = thread .tid; parent = thread .parent; entry = thread .entry; priority = thread .priority; state = thread .state; last = last; times = thread .times; counts = thread .counts }
 
 abbrev pub setTimes : Times → ThreadRecord → ThreadRecord
-setTimes v t = record { tid = t .tid; parent = t .parent; entry = t .entry; priority = t .priority; state = t .state; last = t .last; times = v; counts = t .counts }
+setTimes times thread = record { tid = thread .tid; parent = thread .parent; entry = thread .entry; priority = thread .priority; state = thread .state; last = thread .last; times = times; counts = thread .counts }
 
 abbrev pub setCounts : Counts → ThreadRecord → ThreadRecord
-setCounts v t = record { tid = t .tid; parent = t .parent; entry = t .entry; priority = t .priority; state = t .state; last = t .last; times = t .times; counts = v }
+setCounts counts thread = record { tid = thread .tid; parent = thread .parent; entry = thread .entry; priority = thread .priority; state = thread .state; last = thread .last; times = thread .times; counts = counts }
 
 -- what is added to the six counters: run, ready, blocked, dispatches, preemptions, yields
 unfoldable pub addCounts : (run ready blocked dispatches preemptions yields : ℕ) → ThreadRecord → ThreadRecord
-addCounts a b c d e f t =
-    let n = t .counts in
-    setCounts (record { run = n .run + a; ready = n .ready + b; blocked = n .blocked + c; dispatches = n .dispatches + d; preemptions = n .preemptions + e; yields = n .yields + f }) t
+addCounts run ready blocked dispatches preemptions yields thread =
+    let counts = thread .counts in
+    setCounts (record { run = counts .run + run; ready = counts .ready + ready; blocked = counts .blocked + blocked; dispatches = counts .dispatches + dispatches; preemptions = counts .preemptions + preemptions; yields = counts .yields + yields }) thread
 
 unfoldable pub orElse : Option ℕ → ℕ → Option ℕ
 orElse none n = some n
-orElse (some m) n = some m
+orElse (some first) n = some first
 
 -- 01: "first run set if unset"
 unfoldable pub started : ℕ → ThreadRecord → ThreadRecord
-started now t = setTimes (record { arrival = t .times .arrival; firstRun = orElse (t .times .firstRun) now; finish = t .times .finish }) t
+started now thread = setTimes (record { arrival = thread .times .arrival; firstRun = orElse (thread .times .firstRun) now; finish = thread .times .finish }) thread
 
 -- 01: "`exit` sets finish to now + 1"
 unfoldable pub finished : ℕ → ThreadRecord → ThreadRecord
-finished now t = setState Exited (setTimes (record { arrival = t .times .arrival; firstRun = t .times .firstRun; finish = some (now + 1) }) t)
+finished now thread = setState Exited (setTimes (record { arrival = thread .times .arrival; firstRun = thread .times .firstRun; finish = some (now + 1) }) thread)
 
 -- 01: "Quantum, preempt and forced leaves count as preemptions and go to the back; so does yield, uncounted."
 unfoldable pub left : LeaveReason → ThreadRecord → ThreadRecord
-left Exit t = t
-left Block t = t
-left Yield t = setState Ready t
-left Quantum t = setState Ready (addCounts 0 0 0 0 1 0 t)
-left Preempt t = setState Ready (addCounts 0 0 0 0 1 0 t)
-left Forced t = setState Ready (addCounts 0 0 0 0 1 0 t)
+left Exit thread = thread
+left Block thread = thread
+left Yield thread = setState Ready thread
+left Quantum thread = setState Ready (addCounts 0 0 0 0 1 0 thread)
+left Preempt thread = setState Ready (addCounts 0 0 0 0 1 0 thread)
+left Forced thread = setState Ready (addCounts 0 0 0 0 1 0 thread)
 
 unfoldable pub recordLeave : (now core : ℕ) → LeaveReason → ThreadRecord → ThreadRecord
-recordLeave now i r t = setLast (record { core = t .last .core; dispatch = t .last .dispatch; leave = some (record { tick = now; core = i; reason = r }) }) (left r t)
+recordLeave now i r thread = setLast (record { core = thread .last .core; dispatch = thread .last .dispatch; leave = some (record { tick = now; core = i; reason = r }) }) (left r thread)
 
 unfoldable pub recordDispatch : (now core : ℕ) → ThreadRecord → ThreadRecord
-recordDispatch now i t = setLast (record { core = some i; dispatch = some now; leave = t .last .leave }) (setState (OnCore i) (addCounts 0 0 0 1 0 0 t))
+recordDispatch now i thread = setLast (record { core = some i; dispatch = some now; leave = thread .last .leave }) (setState (OnCore i) (addCounts 0 0 0 1 0 0 thread))
 
 unfoldable pub born : (tid : ℕ) → Option ℕ → (entry priority now : ℕ) → ThreadRecord
 born tid parent entry priority now =
@@ -87,33 +87,33 @@ onThread t f b = setThreads (update t f (b .threads)) b
 
 -- 01: "Spawn, dispatch, leave, wake and priority change each write one event"; the newest E are kept
 unfoldable pub logged : (capE now tid : ℕ) → EventKind → Accounts → Accounts
-logged e now t kind b =
-    record { threads = b .threads; ticks = b .ticks; timelines = b .timelines; log = newest e (b .log ++ (record { tick = now; tid = t; kind = kind } ∷ [])); contextSwitches = b .contextSwitches }
+logged capE now t kind b =
+    record { threads = b .threads; ticks = b .ticks; timelines = b .timelines; log = newest capE (b .log ++ (record { tick = now; tid = t; kind = kind } ∷ [])); contextSwitches = b .contextSwitches }
 
 abbrev pub switchedOnce : Accounts → Accounts
 switchedOnce b = record { threads = b .threads; ticks = b .ticks; timelines = b .timelines; log = b .log; contextSwitches = b .contextSwitches + 1 }
 
 unfoldable pub applyMove : (capE now : ℕ) → Move → Accounts → Accounts
-applyMove e now (starts t) b = onThread t (started now) b
-applyMove e now (leaves t i r) b = logged e now t (Departed i r) (onThread t (recordLeave now i r) b)
-applyMove e now (takes t i) b = logged e now t (Dispatched i) (switchedOnce (onThread t (recordDispatch now i) b))
+applyMove capE now (starts t) b = onThread t (started now) b
+applyMove capE now (leaves t i r) b = logged capE now t (Departed i r) (onThread t (recordLeave now i r) b)
+applyMove capE now (takes t i) b = logged capE now t (Dispatched i) (switchedOnce (onThread t (recordDispatch now i) b))
 
 unfoldable pub applyMoves : (capE now : ℕ) → List Move → Accounts → Accounts
-applyMoves e now [] b = b
-applyMoves e now (m ∷ ms) b = applyMoves e now ms (applyMove e now m b)
+applyMoves capE now [] b = b
+applyMoves capE now (move ∷ ms) b = applyMoves capE now ms (applyMove capE now move b)
 
 ---- charging a tick (phase 1, on the accounts)
 
 -- "Charging a tick changes one core's three counters ..., adds 1 to one of the three"
 unfoldable pub chargeCore : CoreState → CoreTicks → CoreTicks
-chargeCore Idle n = record { busy = n .busy; switching = n .switching; idle = n .idle + 1 }
-chargeCore (Switching t l) n = record { busy = n .busy; switching = n .switching + 1; idle = n .idle }
-chargeCore (Running t s) n = record { busy = n .busy + 1; switching = n .switching; idle = n .idle }
+chargeCore Idle counters = record { busy = counters .busy; switching = counters .switching; idle = counters .idle + 1 }
+chargeCore (Switching t l) counters = record { busy = counters .busy; switching = counters .switching + 1; idle = counters .idle }
+chargeCore (Running t slice) counters = record { busy = counters .busy + 1; switching = counters .switching; idle = counters .idle }
 
 abbrev pub laneOf : CoreState → Lane
 laneOf Idle = IdleLane
 laneOf (Switching t l) = SwitchLane t
-laneOf (Running t s) = RunLane t
+laneOf (Running t slice) = RunLane t
 
 unfoldable pub sameLane : Lane → Lane → Bool
 sameLane IdleLane IdleLane = true
@@ -138,7 +138,7 @@ grown now lane (g ∷ (g′ ∷ gs)) = g ∷ grown now lane (g′ ∷ gs)
 unfoldable pub runsOn : ℕ → CoreState → Bool
 runsOn t Idle = false
 runsOn t (Switching u l) = false
-runsOn t (Running u s) = eqb u t
+runsOn t (Running u slice) = eqb u t
 
 unfoldable pub isHolder : ℕ → Option ℕ → Bool
 isHolder t none = false
@@ -154,21 +154,21 @@ holds t (c ∷ cs) = isHolder t (holder (c .state)) || holds t cs
 
 -- "A running core adds 1 to ... its thread's run ticks. A thread on no core adds 1 to ready or blocked by its state. A switching thread is charged nothing."
 unfoldable pub chargeWaiting : ThreadState → ThreadRecord → ThreadRecord
-chargeWaiting Ready t = addCounts 0 1 0 0 0 0 t
-chargeWaiting (Blocked u) t = addCounts 0 0 1 0 0 0 t
-chargeWaiting (OnCore i) t = t
-chargeWaiting Exited t = t
+chargeWaiting Ready thread = addCounts 0 1 0 0 0 0 thread
+chargeWaiting (Blocked u) thread = addCounts 0 0 1 0 0 0 thread
+chargeWaiting (OnCore i) thread = thread
+chargeWaiting Exited thread = thread
 
 unfoldable pub chargeThreads : List Core → ℕ → List ThreadRecord → List ThreadRecord
-chargeThreads cs i [] = []
-chargeThreads cs i (t ∷ ts) = cond (runs i cs) (addCounts 1 0 0 0 0 0 t) (cond (holds i cs) t (chargeWaiting (t .state) t)) ∷ chargeThreads cs (suc i) ts
+chargeThreads cs t [] = []
+chargeThreads cs t (thread ∷ ts) = cond (runs t cs) (addCounts 1 0 0 0 0 0 thread) (cond (holds t cs) thread (chargeWaiting (thread .state) thread)) ∷ chargeThreads cs (suc t) ts
 
 unfoldable pub charge : (capS now : ℕ) → List Core → Accounts → Accounts
-charge s now cs b =
+charge capS now cs b =
     record {
       threads = chargeThreads cs 0 (b .threads);
-      ticks = zipWith (λ c n. chargeCore (c .state) n) cs (b .ticks);
-      timelines = zipWith (λ c l. newest s (grown now (laneOf (c .state)) l)) cs (b .timelines);
+      ticks = zipWith (λ c counters. chargeCore (c .state) counters) cs (b .ticks);
+      timelines = zipWith (λ c gs. newest capS (grown now (laneOf (c .state)) gs)) cs (b .timelines);
       log = b .log;
       contextSwitches = b .contextSwitches;
     }
@@ -192,8 +192,8 @@ total f [] = 0
 total f (x ∷ xs) = f x + total f xs
 
 abbrev pub since : ℕ → Option ℕ → ℕ
-since a none = 0
-since a (some n) = n - a
+since arrival none = 0
+since arrival (some n) = n - arrival
 
 abbrev pub one : Option ℕ → ℕ
 one none = 0
@@ -216,15 +216,15 @@ unfoldable pub sums : Accounts → Sums
 sums b =
     record {
       threads = length (b .threads);
-      finished = total (λ t. one (t .times .finish)) (b .threads);
-      responded = total (λ t. one (t .times .firstRun)) (b .threads);
+      finished = total (λ thread. one (thread .times .finish)) (b .threads);
+      responded = total (λ thread. one (thread .times .firstRun)) (b .threads);
       contextSwitches = b .contextSwitches;
-      preemptions = total (λ t. t .counts .preemptions) (b .threads);
-      waiting = total (λ t. t .counts .ready) (b .threads);
-      response = total (λ t. since (t .times .arrival) (t .times .firstRun)) (b .threads);
-      turnaround = total (λ t. since (t .times .arrival) (t .times .finish)) (b .threads);
-      busy = total (λ n. n .busy) (b .ticks);
-      coreTicks = total (λ n. n .busy + n .switching + n .idle) (b .ticks);
+      preemptions = total (λ thread. thread .counts .preemptions) (b .threads);
+      waiting = total (λ thread. thread .counts .ready) (b .threads);
+      response = total (λ thread. since (thread .times .arrival) (thread .times .firstRun)) (b .threads);
+      turnaround = total (λ thread. since (thread .times .arrival) (thread .times .finish)) (b .threads);
+      busy = total (λ counters. counters .busy) (b .ticks);
+      coreTicks = total (λ counters. counters .busy + counters .switching + counters .idle) (b .ticks);
     }
 
 -- how many of the moves are dispatches: each is a context switch

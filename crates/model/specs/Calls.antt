@@ -50,23 +50,23 @@ coreAt (c ∷ cs) zero = c
 coreAt (c ∷ cs) (suc i) = coreAt cs i
 
 unfoldable pub priorityOf : ℕ → Option ThreadRecord → ℕ
-priorityOf d none = d
-priorityOf d (some t) = t .priority
+priorityOf default none = default
+priorityOf default (some thread) = thread .priority
 
 unfoldable pub threadStateOf : Option ThreadRecord → Option ThreadState
 threadStateOf none = none
-threadStateOf (some t) = some (t .state)
+threadStateOf (some thread) = some (thread .state)
 
 unfoldable pub yieldsOf : Option ThreadRecord → ℕ
 yieldsOf none = 0
-yieldsOf (some t) = t .counts .yields
+yieldsOf (some thread) = thread .counts .yields
 
 unfoldable pub rules : State → Rules
 rules s = record { policy = s .config .policy; quantum = s .config .quantum; cost = s .config .cost; prio = λ t. priorityOf 0 (getElem? (s .accounts .threads) t) }
 
 unfoldable pub elem : ℕ → List ℕ → Bool
-elem x [] = false
-elem x (h ∷ q) = eqb h x || elem x q
+elem t [] = false
+elem t (h ∷ q) = eqb h t || elem t q
 
 abbrev pub isNone {ℓ} : {A : Type ℓ} → Option A → Bool
 isNone none = true
@@ -75,17 +75,17 @@ isNone (some x) = false
 abbrev pub isIdle : CoreState → Bool
 isIdle Idle = true
 isIdle (Switching t l) = false
-isIdle (Running t s) = false
+isIdle (Running t slice) = false
 
 abbrev pub isSwitching : CoreState → Bool
 isSwitching Idle = false
 isSwitching (Switching t l) = true
-isSwitching (Running t s) = false
+isSwitching (Running t slice) = false
 
 abbrev pub isRunning : CoreState → Bool
 isRunning Idle = false
 isRunning (Switching t l) = false
-isRunning (Running t s) = true
+isRunning (Running t slice) = true
 
 unfoldable pub coreStateOf : State → ℕ → CoreState
 coreStateOf s i = coreAt (s .cores) i .state
@@ -102,8 +102,8 @@ tidOn s i = tidOf (holder (coreStateOf s i))
 
 -- refused by number n if the condition holds, otherwise what the rest says
 unfoldable pub check : ℕ → Bool → Option ℕ → Option ℕ
-check n true r = some n
-check n false r = r
+check n true rest = some n
+check n false rest = rest
 
 -- 01: "`now` is at most 4,000,000,000."; "19+ yields of the thread at 4,000,000,000, or for force context switches ≥ 40,000,000,000"
 unfoldable pub limitNow : ℕ
@@ -126,18 +126,18 @@ anyLeaving (c ∷ cs) = leaving c || anyLeaving cs
 
 -- 15 named thread not ready, or 16 nobody waits
 unfoldable pub cannotTake : State → ℕ → Option ℕ → Option ℕ → Option ℕ
-cannotTake s i none r = check 16 (isNone (pickNext (rules s) i none (s .queue))) r
-cannotTake s i (some t) r = check 15 (not (elem t (s .queue))) r
+cannotTake s i none rest = check 16 (isNone (pickNext (rules s) i none (s .queue))) rest
+cannotTake s i (some t) rest = check 15 (not (elem t (s .queue))) rest
 
 -- "1 setting out of range"
 unfoldable pub badTiming : (quantum cost : ℕ) → Bool
-badTiming q w = ltb 1_000_000 q || ltb 10_000 w
+badTiming quantum cost = ltb 1_000_000 quantum || ltb 10_000 cost
 
 -- 01: "Checked in this order, and no others: spawn 11, 17; tick 11, 18; exit 4, 11, 12, 13; join 4, 11, 12, 13; yield 4, 11, 12, 13, 19; retired 4, 11;
 -- priority 5, 11; force 4, 11, 12, 14, 15 (named) or 16 (unnamed), 19; close 4, 11, 12, 13, 18; `set_timing` 1, 11." "5 no such thread (priority call)."
 -- "11+ closed." "13 core idle, or switching for join and yield. 14 still switching." "17+ T threads exist. 18+ now at its limit."
 unfoldable pub refusal : State → Call → Option ℕ
-refusal s (spawn p e) = check 11 (s .closed) (check 17 (leb (s .config .capT) (length (s .accounts .threads))) none)
+refusal s (spawn parent entry) = check 11 (s .closed) (check 17 (leb (s .config .capT) (length (s .accounts .threads))) none)
 refusal s tick = check 11 (s .closed) (check 18 (leb limitNow (s .now)) none)
 refusal s (exit i) = check 4 (noCore s i) (check 11 (s .closed) (check 12 (leaving (coreAt (s .cores) i)) (check 13 (isIdle (coreStateOf s i)) none)))
 refusal s (join i t) = check 4 (noCore s i) (check 11 (s .closed) (check 12 (leaving (coreAt (s .cores) i)) (check 13 (not (isRunning (coreStateOf s i))) none)))
@@ -146,13 +146,13 @@ refusal s (yield i) =
     (check 19 (leb limitNow (yieldsOf (getElem? (s .accounts .threads) (tidOn s i)))) none))))
 refusal s (retired i) = check 4 (noCore s i) (check 11 (s .closed) none)
 refusal s (priority t n) = check 5 (leb (length (s .accounts .threads)) t) (check 11 (s .closed) none)
-refusal s (force i t) =
+refusal s (force i named) =
     check 4 (noCore s i) (check 11 (s .closed) (check 12 (anyLeaving (s .cores)) (check 14 (isSwitching (coreStateOf s i))
-    (cannotTake s i t (check 19 (leb limitSwitches (s .accounts .contextSwitches)) none)))))
+    (cannotTake s i named (check 19 (leb limitSwitches (s .accounts .contextSwitches)) none)))))
 refusal s (close i) =
     check 4 (noCore s i) (check 11 (s .closed) (check 12 (leaving (coreAt (s .cores) i)) (check 13 (isIdle (coreStateOf s i))
     (check 18 (leb limitNow (s .now)) none))))
-refusal s (timing q w) = check 1 (badTiming q w) (check 11 (s .closed) none)
+refusal s (timing quantum cost) = check 1 (badTiming quantum cost) (check 11 (s .closed) none)
 
 ---- what a call does
 
@@ -182,12 +182,12 @@ blockedOn t (OnCore i) = false
 blockedOn t (Blocked u) = eqb u t
 
 unfoldable pub waiters : ℕ → ℕ → List ThreadRecord → List ℕ
-waiters t i [] = []
-waiters t i (h ∷ ts) = let r = waiters t (suc i) ts in cond (blockedOn t (h .state)) (i ∷ r) r
+waiters t u [] = []
+waiters t u (thread ∷ ts) = let rest = waiters t (suc u) ts in cond (blockedOn t (thread .state)) (u ∷ rest) rest
 
 unfoldable pub wake : (capE now : ℕ) → List ℕ → Accounts → Accounts
-wake e now [] b = b
-wake e now (t ∷ ts) b = wake e now ts (logged e now t Woken (onThread t (setState Ready) b))
+wake capE now [] b = b
+wake capE now (t ∷ woken) b = wake capE now woken (logged capE now t Woken (onThread t (setState Ready) b))
 
 -- 01: "`exit` sets finish to now + 1 and wakes its waiters in thread order to the back of the queue." A waiter keeps its core till the tick ends, "even if
 -- woken in that tick; it is then also in the queue": no core changes here but for the mark
@@ -195,8 +195,8 @@ unfoldable pub exited : State → ℕ → State
 exited s i =
     let t = tidOn s i in
     let b = onThread t (finished (s .now)) (s .accounts) in
-    let w = waiters t 0 (b .threads) in
-    with (update i markExit (s .cores)) (s .queue ++ w) (wake (s .config .capE) (s .now) w b) s
+    let woken = waiters t 0 (b .threads) in
+    with (update i markExit (s .cores)) (s .queue ++ woken) (wake (s .config .capE) (s .now) woken b) s
 
 unfoldable pub outcome : (self target : ℕ) → Option ThreadState → JoinOutcome
 outcome self t none = Invalid
@@ -212,7 +212,7 @@ blocking s i t Wait = with (update i markBlock (s .cores)) (s .queue) (onThread 
 
 abbrev pub parentOf : State → Option ℕ → Option ThreadRecord
 parentOf s none = none
-parentOf s (some p) = getElem? (s .accounts .threads) p
+parentOf s (some parent) = getElem? (s .accounts .threads) parent
 
 -- phase 1 on a state: slices, accounts, now + 1
 abbrev pub charged : State → Accounts
@@ -225,15 +225,15 @@ slicedAll cs = map (λ c. withState (sliced (c .state)) c) cs
 unfoldable pub outOf : (core : ℕ) → CoreState → List Move
 outOf i Idle = []
 outOf i (Switching t l) = []
-outOf i (Running t s) = leaves t i Forced ∷ []
+outOf i (Running t slice) = leaves t i Forced ∷ []
 
 unfoldable pub backOf : CoreState → List ℕ
 backOf Idle = []
 backOf (Switching t l) = []
-backOf (Running t s) = t ∷ []
+backOf (Running t slice) = t ∷ []
 
 abbrev pub forcedCore : (cost tid : ℕ) → Core → Core
-forcedCore w t c = dispatch w t (unmarked c)
+forcedCore cost t c = dispatch cost t (unmarked c)
 
 unfoldable pub takenBy : State → ℕ → Option ℕ → ℕ
 takenBy s i none = tidOf (pickNext (rules s) i none (s .queue))
@@ -245,10 +245,10 @@ plain s = record { state = s; answer = ok; moves = [] }
 
 -- 01: "`spawn` copies the parent's priority; with no parent, or an unknown one, it is 10. The child joins the back of the queue."
 abbrev pub spawnThread : State → Option ℕ → (entry : ℕ) → Stepped
-spawnThread s p e =
+spawnThread s parent entry =
     let t = length (s .accounts .threads) in
-    let b = setThreads (s .accounts .threads ++ (born t p e (priorityOf 10 (parentOf s p)) (s .now) ∷ [])) (s .accounts) in
-    record { state = with (s .cores) (s .queue ++ (t ∷ [])) (logged (s .config .capE) (s .now) t (Spawned p) b) s; answer = spawned t; moves = [] }
+    let b = setThreads (s .accounts .threads ++ (born t parent entry (priorityOf 10 (parentOf s parent)) (s .now) ∷ [])) (s .accounts) in
+    record { state = with (s .cores) (s .queue ++ (t ∷ [])) (logged (s .config .capE) (s .now) t (Spawned parent) b) s; answer = spawned t; moves = [] }
 
 abbrev pub joinThread : State → (core target : ℕ) → Stepped
 joinThread s i t =
@@ -267,9 +267,9 @@ setPriorityOf s t n = with (s .cores) (s .queue) (logged (s .config .capE) (s .n
 
 -- 01: "`set_timing` turns quantum 0 into 1."
 abbrev pub setTiming : State → (quantum cost : ℕ) → State
-setTiming s q w =
+setTiming s quantum cost =
     record {
-      config = record { policy = s .config .policy; quantum = max q 1; cost = w; capT = s .config .capT; capE = s .config .capE; capS = s .config .capS };
+      config = record { policy = s .config .policy; quantum = max quantum 1; cost = cost; capT = s .config .capT; capE = s .config .capE; capS = s .config .capS };
       cores = s .cores;
       queue = s .queue;
       accounts = s .accounts;
@@ -278,8 +278,8 @@ setTiming s q w =
     }
 
 abbrev pub forceSwitch : State → (core : ℕ) → Option ℕ → Stepped
-forceSwitch s i n =
-    let t = takenBy s i n in
+forceSwitch s i named =
+    let t = takenBy s i named in
     let ms = outOf i (coreStateOf s i) ++ dispatchMoves (s .config .cost) t i in
     record {
       state = with (update i (forcedCore (s .config .cost) t) (s .cores)) (without t (s .queue ++ backOf (coreStateOf s i))) (applyMoves (s .config .capE) (s .now) ms (s .accounts)) s;
@@ -290,55 +290,55 @@ forceSwitch s i n =
 -- 01, "Switch entry": phase 1 charges, then now + 1; the phases decide; what they decide is written into the accounts at the new `now`
 abbrev pub endTick : State → Stepped
 endTick s =
-    let p = decide (rules s) (s .cores) (s .queue) in
+    let pass = decide (rules s) (s .cores) (s .queue) in
     record {
       state = record {
         config = s .config;
-        cores = p .cores;
-        queue = p .queue;
-        accounts = applyMoves (s .config .capE) (s .now + 1) (p .moves) (charged s);
+        cores = pass .cores;
+        queue = pass .queue;
+        accounts = applyMoves (s .config .capE) (s .now + 1) (pass .moves) (charged s);
         now = s .now + 1;
         closed = s .closed;
       };
-      answer = switched (switchList [] (p .moves));
-      moves = p .moves;
+      answer = switched (switchList [] (pass .moves));
+      moves = pass .moves;
     }
 
 -- 01: "`close` does `exit` and phase 1, clears the calls' marks and decides nothing more."
 abbrev pub closeOn : State → (core : ℕ) → State
 closeOn s i =
-    let e = exited s i in
+    let s′ = exited s i in
     record {
-      config = e .config;
-      cores = map unmarked (slicedAll (e .cores));
-      queue = e .queue;
-      accounts = charged e;
-      now = e .now + 1;
+      config = s′ .config;
+      cores = map unmarked (slicedAll (s′ .cores));
+      queue = s′ .queue;
+      accounts = charged s′;
+      now = s′ .now + 1;
       closed = true;
     }
 
 unfoldable pub accept : State → Call → Stepped
-accept s (spawn p e) = spawnThread s p e
+accept s (spawn parent entry) = spawnThread s parent entry
 accept s (exit i) = plain (exited s i)
 accept s (join i t) = joinThread s i t
 accept s (retired i) = plain (retiredOn s i)
 accept s (yield i) = plain (yieldNow s i)
 accept s (priority t n) = plain (setPriorityOf s t n)
-accept s (timing q w) = plain (setTiming s q w)
-accept s (force i n) = forceSwitch s i n
+accept s (timing quantum cost) = plain (setTiming s quantum cost)
+accept s (force i named) = forceSwitch s i named
 accept s tick = endTick s
 accept s (close i) = plain (closeOn s i)
 
 unfoldable pub stepped : State → Call → Option ℕ → Stepped
-stepped s c (some n) = record { state = s; answer = refused n; moves = [] }
-stepped s c none = accept s c
+stepped s call (some n) = record { state = s; answer = refused n; moves = [] }
+stepped s call none = accept s call
 
 unfoldable pub step : State → Call → Stepped
-step s c = stepped s c (refusal s c)
+step s call = stepped s call (refusal s call)
 
 unfoldable pub run : State → List Call → State
 run s [] = s
-run s (c ∷ cs) = run (step s c .state) cs
+run s (call ∷ calls) = run (step s call .state) calls
 
 ---- creation
 
@@ -348,16 +348,16 @@ pub data Made : Type 0 where
 
 -- 01: "`new` starts thread 0 running on core 0, priority 10." The Rust logs its spawn and its dispatch; n is the number of further cores, which are idle
 unfoldable pub initialState : (cores entry : ℕ) → Config → State
-initialState n entry k =
+initialState n entry config =
     record {
-      config = k;
+      config = config;
       cores = cleared (Running 0 0) false false ∷ replicate n idleCore;
       queue = [];
       accounts = record {
         threads = started 0 (addCounts 0 0 0 1 0 0 (setLast0 (born 0 none entry 10 0))) ∷ [];
         ticks = replicate (suc n) (record { busy = 0; switching = 0; idle = 0 });
         timelines = replicate (suc n) [];
-        log = newest (k .capE) (record { tick = 0; tid = 0; kind = Spawned none } ∷ record { tick = 0; tid = 0; kind = Dispatched 0 } ∷ []);
+        log = newest (config .capE) (record { tick = 0; tid = 0; kind = Spawned none } ∷ record { tick = 0; tid = 0; kind = Dispatched 0 } ∷ []);
         contextSwitches = 0;
       };
       now = 0;
@@ -365,17 +365,17 @@ initialState n entry k =
     }
   where
     setLast0 : ThreadRecord → ThreadRecord
-    setLast0 t = record { tid = t .tid; parent = t .parent; entry = t .entry; priority = t .priority; state = OnCore 0; last = record { core = some 0; dispatch = some 0; leave = none }; times = t .times; counts = t .counts }
+    setLast0 thread = record { tid = thread .tid; parent = thread .parent; entry = thread .entry; priority = thread .priority; state = OnCore 0; last = record { core = some 0; dispatch = some 0; leave = none }; times = thread .times; counts = thread .counts }
 
 -- 01: "`new` checks 1, 2, 3."; "0 counts as 1"
 unfoldable pub refusedNew : (quantum cost cores capT capE capS : ℕ) → Option ℕ
-refusedNew q w n t e s =
-    check 1 (beyond 1 1_000_000 q || ltb 10_000 w) (check 2 (ltb 8 n) (check 3 (beyond 1 256 t || (beyond 1 512 e || beyond 1 4096 s)) none))
+refusedNew quantum cost n capT capE capS =
+    check 1 (beyond 1 1_000_000 quantum || ltb 10_000 cost) (check 2 (ltb 8 n) (check 3 (beyond 1 256 capT || (beyond 1 512 capE || beyond 1 4096 capS)) none))
 
 unfoldable pub madeOf : Option ℕ → State → Made
 madeOf none s = made s
-madeOf (some r) s = unmade r
+madeOf (some n) s = unmade n
 
 unfoldable pub new : Policy → (quantum cost cores capT capE capS entry : ℕ) → Made
-new p q w n t e s entry =
-    madeOf (refusedNew q w n t e s) (initialState (Prim.Native.Nat.pred n) entry (record { policy = p; quantum = q; cost = w; capT = t; capE = e; capS = s }))
+new policy quantum cost n capT capE capS entry =
+    madeOf (refusedNew quantum cost n capT capE capS) (initialState (Prim.Native.Nat.pred n) entry (record { policy = policy; quantum = quantum; cost = cost; capT = capT; capE = capE; capS = capS }))

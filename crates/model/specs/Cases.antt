@@ -9,7 +9,7 @@ use Rattle.model.specs.Accounting.{Sums, sums}
 use Rattle.model.specs.Phases.{ascend, andThen, without, moreUrgent, mostUrgent, eligible, choose, pickNext, quantumOf, dispatchedState, dispatchMoves, sliced, phase1, switchedIn, phase2, vacate, phase3, filled, phase4, quantumOver, handOver, phase5, lessUrgent, leastUrgent, candidate, update, preempted, preemptRounds, preemptionOf, nextPreemption, phase6, phases1To4, decide}
 use Rattle.model.specs.Accounting.{newest, addCounts, started, finished, left, recordLeave, recordDispatch, born, logged, applyMove, applyMoves, chargeCore, sameLane, grown, runsOn, isHolder, runs, holds, chargeWaiting, chargeThreads, charge, touched, switchList, total, orElse}
 use Rattle.model.specs.Calls.{coreAt, priorityOf, threadStateOf, yieldsOf, rules, elem, coreStateOf, tidOf, tidOn, check, limitNow, limitSwitches, noCore, leaving, anyLeaving, cannotTake, badTiming, refusal, waiters, wake, exited, outcome, blocking, slicedAll, outOf, backOf, takenBy, accept, stepped, initialState, beyond, refusedNew, madeOf}
-use Rattle.model.specs.Claims.{bound}
+use Rattle.model.specs.Bound.{bound}
 use Rattle.model.specs.Calls.{Call, spawn, exit, join, retired, yield, priority, timing, force, tick, close, Answer, refused, ok, spawned, joined, switched, Wait, Done, Invalid, Made, made, unmade, new, step, run}
 
 -- `unfolding compute` is to unfold the whole definition
@@ -20,15 +20,15 @@ compute = tt
 -- the states and the answers along a list of calls
 abbrev answers : State → List Call → List Answer
 answers s [] = []
-answers s (c ∷ cs) = step s c .answer ∷ answers (step s c .state) cs
+answers s (call ∷ calls) = step s call .answer ∷ answers (step s call .state) calls
 
 abbrev after : Made → List Call → Option State
-after (unmade n) cs = none
-after (made s) cs = some (run s cs)
+after (unmade n) calls = none
+after (made s) calls = some (run s calls)
 
 abbrev told : Made → List Call → List Answer
-told (unmade n) cs = refused n ∷ []
-told (made s) cs = answers s cs
+told (unmade n) calls = refused n ∷ []
+told (made s) calls = answers s calls
 
 abbrev cellsOf : Option State → List CoreState
 cellsOf none = []
@@ -44,21 +44,21 @@ marksOf (some s) = map (λ (c : Core). c .progressed) (s .cores)
 
 abbrev blockedOf : Option State → List ℕ
 blockedOf none = []
-blockedOf (some s) = map (λ (t : ThreadRecord). t .counts .blocked) (s .accounts .threads)
+blockedOf (some s) = map (λ (thread : ThreadRecord). thread .counts .blocked) (s .accounts .threads)
 
 abbrev runOf : Option State → List ℕ
 runOf none = []
-runOf (some s) = map (λ (t : ThreadRecord). t .counts .run) (s .accounts .threads)
+runOf (some s) = map (λ (thread : ThreadRecord). thread .counts .run) (s .accounts .threads)
 
 abbrev totals : Option State → Option Sums
 totals none = none
 totals (some s) = some (sums (s .accounts))
 
 abbrev pub at : Policy → (quantum cost cores : ℕ) → Made
-at p q w n = new p q w n 256 512 256 0
+at policy quantum cost n = new policy quantum cost n 256 512 256 0
 
 abbrev swap : (core out : ℕ) → LeaveReason → (inn : ℕ) → SwitchEntry
-swap i o r n = record { core = i; out = some (record { tid = o; reason = r }); inn = some n }
+swap i out r inn = record { core = i; out = some (record { tid = out; reason = r }); inn = some inn }
 
 ---- the worked example of 01
 
@@ -140,6 +140,11 @@ none-loses : cellsOf (after (at Priority 9 0 2) (sevens ++ (priority 2 7 ∷ tic
 unfolding compute
 none-loses = refl
 
+-- 01: "Quantum, preempt and forced leaves count as preemptions and go to the back": thread 0 waits behind thread 2
+to-the-back : queueOf (after (at RoundRobin 1 0 1) (spawn none 0 ∷ spawn none 0 ∷ retired 0 ∷ tick ∷ [])) ≡ 2 ∷ 0 ∷ []
+unfolding compute
+to-the-back = refl
+
 -- refusals: no such core, idle, named thread not ready, nobody waits, blocked this tick, closed
 refusals :
     told (at RoundRobin 9 0 2) (exit 2 ∷ exit 1 ∷ force 0 (some 5) ∷ force 0 none ∷ priority 9 9 ∷ timing 1_000_001 0 ∷ spawn none 0 ∷ join 0 1 ∷ join 0 1 ∷ force 1 none ∷ tick ∷ close 0 ∷ tick ∷ [])
@@ -155,8 +160,8 @@ bounds = (refl, refl)
 ---- the limits: 18 now at its limit, 19 yields of the thread, or for force the context switches, at theirs; one below is taken
 
 abbrev refusesAt : (State → State) → Call → Made → Option ℕ
-refusesAt f c (unmade n) = none
-refusesAt f c (made s) = refusal (f s) c
+refusesAt f call (unmade n) = none
+refusesAt f call (made s) = refusal (f s) call
 
 abbrev aged : ℕ → State → State
 aged n s = record { config = s .config; cores = s .cores; queue = s .queue; accounts = s .accounts; now = n; closed = s .closed }

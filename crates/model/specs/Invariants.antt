@@ -38,7 +38,7 @@ abbrev pub States : Type 0
 States = ℕ → Option ThreadState
 
 unfoldable pub statesOf : List ThreadRecord → States
-statesOf ts x = threadStateOf (getElem? ts x)
+statesOf ts t = threadStateOf (getElem? ts t)
 
 -- 01: "Ready means in the queue": who stands there is ready, and stands there once
 pub record QueueOK (L : States) (q : List ℕ) : Type 0 where
@@ -53,13 +53,13 @@ Loose (some Exited) = Unit {0}
 Loose (some (Blocked u)) = Unit {0}
 Loose (some (OnCore i)) = ⊥
 
--- a core's thread is held there, or has exited or blocked in this tick (g). 01: "A thread that joins keeps its core till the tick ends, even if woken in that tick"
-abbrev pub OKAt : States → ℕ → CoreState → (g : Bool) → Type 0
-OKAt L i Idle g = Unit {0}
+-- a core's thread is held there, or has exited or blocked in this tick (gone). 01: "A thread that joins keeps its core till the tick ends, even if woken in that tick"
+abbrev pub OKAt : States → ℕ → CoreState → (gone : Bool) → Type 0
+OKAt L i Idle gone = Unit {0}
 OKAt L i (Switching t l) false = L t ≡ some (OnCore i)
 OKAt L i (Switching t l) true = Loose (L t)
-OKAt L i (Running t s) false = L t ≡ some (OnCore i)
-OKAt L i (Running t s) true = Loose (L t)
+OKAt L i (Running t slice) false = L t ≡ some (OnCore i)
+OKAt L i (Running t slice) true = Loose (L t)
 
 abbrev pub CoreOK : States → ℕ → Core → Type 0
 CoreOK L i c = OKAt L i (c .state) (c .exits || c .blocks)
@@ -79,56 +79,56 @@ Roomy s = length (s .accounts .threads) ≤ s .config .capT
 ---- what the numbers stay below
 
 abbrev pub Between : ℕ → ℕ → Option ℕ → Type 0
-Between a b none = Unit {0}
-Between a b (some n) = (a ≤ n) × (n ≤ b)
+Between low high none = Unit {0}
+Between low high (some n) = (low ≤ n) × (n ≤ high)
 
--- a thread's record; d and p bound its dispatches and preemptions
-pub record ThreadIn (now d p : ℕ) (t : ThreadRecord) : Type 0 where
+-- a thread's record; maxD and maxP bound its dispatches and preemptions
+pub record ThreadIn (now maxD maxP : ℕ) (thread : ThreadRecord) : Type 0 where
   -- a tick adds at most 1 to one of the three
-  pub run : t .counts .run ≤ now
-  pub ready : t .counts .ready ≤ now
-  pub blocked : t .counts .blocked ≤ now
+  pub run : thread .counts .run ≤ now
+  pub ready : thread .counts .ready ≤ now
+  pub blocked : thread .counts .blocked ≤ now
   -- each is a context switch, the first dispatch of thread 0 aside
-  pub dispatches : t .counts .dispatches ≤ d
-  pub preemptions : t .counts .preemptions ≤ p
+  pub dispatches : thread .counts .dispatches ≤ maxD
+  pub preemptions : thread .counts .preemptions ≤ maxP
   -- 01: "19+ yields of the thread at 4,000,000,000"
-  pub yields : t .counts .yields ≤ limitNow
+  pub yields : thread .counts .yields ≤ limitNow
   -- 01: "`exit` sets finish to now + 1"
-  pub arrival : t .times .arrival ≤ now
-  pub firstRun : Between (t .times .arrival) now (t .times .firstRun)
-  pub finish : Between (t .times .arrival) (now + 1) (t .times .finish)
+  pub arrival : thread .times .arrival ≤ now
+  pub firstRun : Between (thread .times .arrival) now (thread .times .firstRun)
+  pub finish : Between (thread .times .arrival) (now + 1) (thread .times .finish)
 
 -- 01: charging a tick "adds 1 to one of the three"
 abbrev pub TicksIn : ℕ → CoreTicks → Type 0
-TicksIn now n = n .busy + n .switching + n .idle ≡ now
+TicksIn now counters = counters .busy + counters .switching + counters .idle ≡ now
 
 -- a core's slice, or what it has left to switch. 01: "otherwise left = cost"
 abbrev pub CoreStateIn : ℕ → CoreState → Type 0
 CoreStateIn now Idle = Unit {0}
 CoreStateIn now (Switching t l) = (1 ≤ l) × (l ≤ 10_000)
-CoreStateIn now (Running t s) = s ≤ now
+CoreStateIn now (Running t slice) = slice ≤ now
 
 abbrev pub CoreIn : ℕ → Core → Type 0
 CoreIn now c = CoreStateIn now (c .state)
 
 -- 01: "Quantum 1 to 1,000,000; switch cost 0 to 10,000." "1 to 256 thread records (capacity T); newest 1 to 512 events (E); newest 1 to 4,096 segments per core (S)."
-pub record Settings (k : Config) : Type 0 where
-  pub quantum : 1 ≤ k .quantum
-  pub quantum′ : k .quantum ≤ 1_000_000
-  pub cost : k .cost ≤ 10_000
-  pub capT : 1 ≤ k .capT
-  pub capT′ : k .capT ≤ 256
-  pub capE : 1 ≤ k .capE
-  pub capE′ : k .capE ≤ 512
-  pub capS : 1 ≤ k .capS
-  pub capS′ : k .capS ≤ 4096
+pub record Settings (config : Config) : Type 0 where
+  pub quantum : 1 ≤ config .quantum
+  pub quantum′ : config .quantum ≤ 1_000_000
+  pub cost : config .cost ≤ 10_000
+  pub capT : 1 ≤ config .capT
+  pub capT′ : config .capT ≤ 256
+  pub capE : 1 ≤ config .capE
+  pub capE′ : config .capE ≤ 512
+  pub capS : 1 ≤ config .capS
+  pub capS′ : config .capS ≤ 4096
 
--- n cores, at most e events and c segments a core
-pub record Sizes (e c n : ℕ) (b : Accounts) : Type 0 where
+-- of n cores
+pub record Sizes (capE capS n : ℕ) (b : Accounts) : Type 0 where
   pub ticks : length (b .ticks) ≡ n
   pub timelines : length (b .timelines) ≡ n
-  pub log : length (b .log) ≤ e
-  pub segments : All (λ (l : List Segment). length l ≤ c) (b .timelines)
+  pub log : length (b .log) ≤ capE
+  pub segments : All (λ (gs : List Segment). length gs ≤ capS) (b .timelines)
 
 pub record Bounded (s : State) : Type 0 where
   pub placed : Placed s

@@ -25,7 +25,7 @@ nextTid s = length (s .accounts .threads)
 unfoldable pub runner : CoreState → Option ℕ
 runner Idle = none
 runner (Switching t l) = none
-runner (Running t s) = some t
+runner (Running t slice) = some t
 
 -- `running_on`: the thread that a core executes; none where it switches, is idle or does not exist
 unfoldable pub runningOn : State → (core : ℕ) → Option ℕ
@@ -37,7 +37,7 @@ threadOn s i = holder (coreStateOf s i)
 
 unfoldable pub findFrom : ℕ → ℕ → List Core → Option ℕ
 findFrom i t [] = none
-findFrom i t (c ∷ cs) = let r = findFrom (suc i) t cs in cond (isHolder t (holder (c .state))) (some i) r
+findFrom i t (c ∷ cs) = let rest = findFrom (suc i) t cs in cond (isHolder t (holder (c .state))) (some i) rest
 
 -- `core_of`: the core that a thread is on
 unfoldable pub coreOf : State → (tid : ℕ) → Option ℕ
@@ -45,7 +45,7 @@ coreOf s t = findFrom 0 t (s .cores)
 
 unfoldable pub orEmpty {ℓ} : {A : Type ℓ} → Option (List A) → List A
 orEmpty none = []
-orEmpty (some l) = l
+orEmpty (some xs) = xs
 
 -- `timeline`: a core's segments, oldest first; none for a core that does not exist
 unfoldable pub timelineOf : State → (core : ℕ) → List Segment
@@ -54,8 +54,8 @@ timelineOf s i = orEmpty (getElem? (s .accounts .timelines) i)
 ---- what is left to run
 
 unfoldable pub anyThread : (ThreadState → Bool) → List ThreadRecord → Bool
-anyThread p [] = false
-anyThread p (t ∷ ts) = p (t .state) || anyThread p ts
+anyThread f [] = false
+anyThread f (thread ∷ ts) = f (thread .state) || anyThread f ts
 
 abbrev pub isLive : ThreadState → Bool
 isLive Ready = true
@@ -84,23 +84,23 @@ isDeadlocked s = hasLive s && not (hasRunnable s)
 ---- a thread's times
 
 unfoldable pub passed : (arrival : ℕ) → Option ℕ → Option ℕ
-passed a none = none
-passed a (some n) = some (n - a)
+passed arrival none = none
+passed arrival (some n) = some (n - arrival)
 
 -- `response`: from arrival to first run
 unfoldable pub responseOf : ThreadRecord → Option ℕ
-responseOf t = passed (t .times .arrival) (t .times .firstRun)
+responseOf thread = passed (thread .times .arrival) (thread .times .firstRun)
 
 -- `turnaround`: from arrival to finish
 unfoldable pub turnaroundOf : ThreadRecord → Option ℕ
-turnaroundOf t = passed (t .times .arrival) (t .times .finish)
+turnaroundOf thread = passed (thread .times .arrival) (thread .times .finish)
 
 ---- the summary
 
 -- 01: "Each is an exact sum divided once; over nobody it is 0.0"
 unfoldable pub mean : (sum count : ℕ) → Float
-mean s zero = fin false 0 (pos 0)
-mean s (suc n) = div binary64 (ofInt binary64 (pos s)) (ofInt binary64 (pos (suc n)))
+mean sum zero = fin false 0 (pos 0)
+mean sum (suc n) = div binary64 (ofInt binary64 (pos sum)) (ofInt binary64 (pos (suc n)))
 
 -- 01: "Four binary64 figures in one record: means of ready ticks (all threads), response (those with a first run), turnaround (finished), and utilization."
 pub record Figures : Type 0 where
@@ -110,10 +110,10 @@ pub record Figures : Type 0 where
   pub utilization : Float
 
 unfoldable pub figures : Sums → Figures
-figures n =
+figures exact =
     record {
-      waiting = mean (n .waiting) (n .threads);
-      response = mean (n .response) (n .responded);
-      turnaround = mean (n .turnaround) (n .finished);
-      utilization = mean (n .busy) (n .coreTicks);
+      waiting = mean (exact .waiting) (exact .threads);
+      response = mean (exact .response) (exact .responded);
+      turnaround = mean (exact .turnaround) (exact .finished);
+      utilization = mean (exact .busy) (exact .coreTicks);
     }

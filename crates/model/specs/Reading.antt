@@ -56,7 +56,7 @@ optionTidMeant (OptionTidCases.Some t) = some (t .0)
 
 abbrev pub optionCoreMeant : OptionCore → Option ℕ
 optionCoreMeant OptionCoreCases.None = none
-optionCoreMeant (OptionCoreCases.Some c) = some (c .0)
+optionCoreMeant (OptionCoreCases.Some i) = some (i .0)
 
 abbrev pub optionTickMeant : OptionTick → Option ℕ
 optionTickMeant OptionTickCases.None = none
@@ -67,10 +67,10 @@ optionTickMeant (OptionTickCases.Some n) = some (n .0)
 abbrev pub coreStateMeant : CoreStates.CoreState → CoreState
 coreStateMeant CoreStateCases.Idle = Idle
 coreStateMeant (CoreStateCases.Switching t l) = Switching (t .0) l
-coreStateMeant (CoreStateCases.Running t s) = Running (t .0) s
+coreStateMeant (CoreStateCases.Running t slice) = Running (t .0) slice
 
 abbrev pub coreTicksMeant : Counters.CoreTicks → CoreTicks
-coreTicksMeant n = record { busy = n .busy; switching = n .switching; idle = n .idle }
+coreTicksMeant counters = record { busy = counters .busy; switching = counters .switching; idle = counters .idle }
 
 abbrev pub laneMeant : Lanes.Lane → Lane
 laneMeant LaneCases.Idle = IdleLane
@@ -92,57 +92,57 @@ reasonMeant ReasonCases.Forced = Forced
 
 abbrev pub threadStateMeant : ThreadStates.ThreadState → ThreadState
 threadStateMeant ThreadStateCases.Ready = Ready
-threadStateMeant (ThreadStateCases.Running c) = OnCore (c .0)
+threadStateMeant (ThreadStateCases.Running i) = OnCore (i .0)
 threadStateMeant (ThreadStateCases.Blocked t) = Blocked (t .0)
 threadStateMeant ThreadStateCases.Exited = Exited
 
 abbrev pub lastLeaveMeant : LastLeaves.LastLeave → LastLeave
-lastLeaveMeant l = record { tick = l .tick .0; core = l .core .0; reason = reasonMeant (l .reason) }
+lastLeaveMeant leave = record { tick = leave .tick .0; core = leave .core .0; reason = reasonMeant (leave .reason) }
 
 abbrev pub optionLeaveMeant : OptionLeave → Option LastLeave
 optionLeaveMeant OptionLeaveCases.None = none
-optionLeaveMeant (OptionLeaveCases.Some l) = some (lastLeaveMeant l)
+optionLeaveMeant (OptionLeaveCases.Some leave) = some (lastLeaveMeant leave)
 
 abbrev pub timesMeant : ThreadStats → Times
-timesMeant s = record { arrival = s .arrival .0; firstRun = optionTickMeant (s .«first_run»); finish = optionTickMeant (s .finish) }
+timesMeant stats = record { arrival = stats .arrival .0; firstRun = optionTickMeant (stats .«first_run»); finish = optionTickMeant (stats .finish) }
 
 abbrev pub countsMeant : ThreadStats → Counts
-countsMeant s =
-    record { run = s .«run_ticks»; ready = s .«ready_ticks»; blocked = s .«blocked_ticks»; dispatches = s .dispatches; preemptions = s .preemptions; yields = s .yields }
+countsMeant stats =
+    record { run = stats .«run_ticks»; ready = stats .«ready_ticks»; blocked = stats .«blocked_ticks»; dispatches = stats .dispatches; preemptions = stats .preemptions; yields = stats .yields }
 
 abbrev pub threadMeant : ThreadInfo → ThreadRecord
-threadMeant t =
+threadMeant thread =
     record {
-      tid = t .tid .0;
-      parent = optionTidMeant (t .parent);
-      entry = t .«entry_pc»;
-      priority = t .priority;
-      state = threadStateMeant (t .state);
-      last = record { core = optionCoreMeant (t .«last_core»); dispatch = optionTickMeant (t .«last_dispatch»); leave = optionLeaveMeant (t .«last_leave») };
-      times = timesMeant (t .stats);
-      counts = countsMeant (t .stats);
+      tid = thread .tid .0;
+      parent = optionTidMeant (thread .parent);
+      entry = thread .«entry_pc»;
+      priority = thread .priority;
+      state = threadStateMeant (thread .state);
+      last = record { core = optionCoreMeant (thread .«last_core»); dispatch = optionTickMeant (thread .«last_dispatch»); leave = optionLeaveMeant (thread .«last_leave») };
+      times = timesMeant (thread .stats);
+      counts = countsMeant (thread .stats);
     }
 
 ---- the log
 
 abbrev pub eventKindMeant : SchedEventKind → EventKind
-eventKindMeant (EventCases.Spawn p) = Spawned (optionTidMeant p)
-eventKindMeant (EventCases.Dispatch c) = Dispatched (c .0)
-eventKindMeant (EventCases.Leave c r) = Departed (c .0) (reasonMeant r)
+eventKindMeant (EventCases.Spawn parent) = Spawned (optionTidMeant parent)
+eventKindMeant (EventCases.Dispatch i) = Dispatched (i .0)
+eventKindMeant (EventCases.Leave i r) = Departed (i .0) (reasonMeant r)
 eventKindMeant EventCases.Wake = Woken
 eventKindMeant (EventCases.Priority n) = Reprioritised n
 
 abbrev pub eventMeant : SchedEvent → Event
-eventMeant e = record { tick = e .tick .0; tid = e .tid .0; kind = eventKindMeant (e .kind) }
+eventMeant event = record { tick = event .tick .0; tid = event .tid .0; kind = eventKindMeant (event .kind) }
 
 ---- switch lists
 
 abbrev pub optionOutMeant : OptionOut → Option Out
 optionOutMeant OptionOutCases.None = none
-optionOutMeant (OptionOutCases.Some o) = some (record { tid = o .tid .0; reason = reasonMeant (o .reason) })
+optionOutMeant (OptionOutCases.Some out) = some (record { tid = out .tid .0; reason = reasonMeant (out .reason) })
 
 abbrev pub switchMeant : Switches.Switch → SwitchEntry
-switchMeant s = record { core = s .core .0; out = optionOutMeant (s .out); inn = optionTidMeant (s .inn) }
+switchMeant e = record { core = e .core .0; out = optionOutMeant (e .out); inn = optionTidMeant (e .inn) }
 
 -- the same in numbers: who leaves, for which reason, and who comes
 abbrev pub outFrom : (reason tid : ℕ) → Option Out
@@ -152,14 +152,14 @@ outFrom (suc (suc zero)) t = some (record { tid = t; reason = Block })
 outFrom (suc (suc (suc zero))) t = some (record { tid = t; reason = Yield })
 outFrom (suc (suc (suc (suc zero)))) t = some (record { tid = t; reason = Quantum })
 outFrom (suc (suc (suc (suc (suc zero))))) t = some (record { tid = t; reason = Preempt })
-outFrom (suc (suc (suc (suc (suc (suc r)))))) t = some (record { tid = t; reason = Forced })
+outFrom (suc (suc (suc (suc (suc (suc n)))))) t = some (record { tid = t; reason = Forced })
 
 abbrev pub innFrom : (taken tid : ℕ) → Option ℕ
 innFrom zero t = none
-innFrom (suc k) t = some t
+innFrom (suc n) t = some t
 
 abbrev pub switchWordsMeant : SwitchWords → SwitchEntry
-switchWordsMeant w = record { core = w .core .0; out = outFrom (w .reason) (w .left .0); inn = innFrom (w .taken) (w .came .0) }
+switchWordsMeant words = record { core = words .core .0; out = outFrom (words .reason) (words .left .0); inn = innFrom (words .taken) (words .came .0) }
 
 -- a switch list in the front of an array
 abbrev pub switchesMeant : List SwitchWords → (count : ℕ) → List SwitchEntry
@@ -174,17 +174,17 @@ joinMeant JoinCases.Invalid = Invalid
 
 abbrev pub callAnswerMeant : CallAnswer → Answer
 callAnswerMeant CallCases.Taken = ok
-callAnswerMeant (CallCases.Refused r) = refused (refusalNumber r)
+callAnswerMeant (CallCases.Refused refusal) = refused (refusalNumber refusal)
 
 abbrev pub spawnAnswerMeant : SpawnAnswer → Answer
 spawnAnswerMeant (SpawnCases.Spawned t) = spawned (t .0)
-spawnAnswerMeant (SpawnCases.Refused r) = refused (refusalNumber r)
+spawnAnswerMeant (SpawnCases.Refused refusal) = refused (refusalNumber refusal)
 
 abbrev pub joinAnswerMeant : JoinAnswer → Answer
 joinAnswerMeant (JoinAnswerCases.Joined o) = joined (joinMeant o)
-joinAnswerMeant (JoinAnswerCases.Refused r) = refused (refusalNumber r)
+joinAnswerMeant (JoinAnswerCases.Refused refusal) = refused (refusalNumber refusal)
 
 -- an answer with a switch list: the list counts where the call is taken
 abbrev pub switchAnswerMeant : CallAnswer → List SwitchWords → (count : ℕ) → Answer
 switchAnswerMeant CallCases.Taken entries count = switched (switchesMeant entries count)
-switchAnswerMeant (CallCases.Refused r) entries count = refused (refusalNumber r)
+switchAnswerMeant (CallCases.Refused refusal) entries count = refused (refusalNumber refusal)

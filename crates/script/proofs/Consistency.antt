@@ -15,7 +15,7 @@ use Rattle.model.specs.Phases.{Rules, Pass, update, without, pickNext, dispatch
 use Rattle.model.specs.Accounting.{logged, finished, onThread, applyMoves, applyMove, chargeThreads, charge, switchList, setState}
 use Rattle.model.specs.Calls.{Call, spawn, exit, join, retired, yield, priority, timing, force, tick, close, JoinOutcome, Wait, Done, Invalid, Answer, refused, ok, spawned, joined, switched, Stepped, coreAt, elem, rules, tidOf, tidOn, threadStateOf, coreStateOf, check, refusal, cannotTake, limitNow, waiters, blockedOn, wake, exited, outcome, blocking, outOf, backOf, takenBy, forcedCore, unmarked, slicedAll, accept, markExit, markBlock, markYield, markProgress, noCore, leaving, anyLeaving, isSwitching, stepped, step}
 use Rattle.model.proofs.PhaseLaws.{all-update, length-update}
-use Rattle.model.proofs.Invariants.{check-none}
+use Rattle.model.proofs.Refusals.{check-none, check-rest}
 use Rattle.model.proofs.ThreadStates.{all-elem, snoc-all, without-all, next-in}
 use Rattle.model.proofs.Placement.{roomy-accept}
 use Rattle.script.proofs.Range.{MovesIn, moves-append, in-dispatchMoves, few-dispatchMoves, PassIn, decide-in, decide-size}
@@ -117,11 +117,6 @@ taken-in s i none r v e = go (pickNext (rules s) i none (s .queue)) (next-in (λ
     go none a = v .one
     go (some t) a = a
 taken-in s i (some t) r v e = all-elem (λ (t : ℕ). t < length (s .accounts .threads)) (s .queue) t (v .queue) (not-false (elem t (s .queue)) (check-none 15 _ _ e))
-
-pub check-rest : (n : ℕ) (b : Bool) (r : Option ℕ) → check n b r ≡ none → r ≡ none
-unfolding check
-check-rest n true r e = cc
-check-rest n false r e = e
 
 ---- every unrefused call
 

@@ -14,14 +14,14 @@ use Rattle.model.specs.Types.{Policy, Core, CoreTicks, Config, State}
 use Rattle.model.specs.Phases.{cleared}
 use Rattle.model.specs.Accounting.{born, addCounts, started, orElse, total, sums}
 use Rattle.model.specs.Calls.{Call, spawn, exit, join, retired, yield, priority, force, tick, close, idleCore, check, refusal, beyond, refusedNew, madeOf, initialState, new, Made, made, unmade, accept, stepped, step}
-use Rattle.model.proofs.Invariants.{check-none}
+use Rattle.model.proofs.Refusals.{check-none, check-rest}
 use Rattle.text.specs.Bytes.{number}
 use Rattle.text.specs.Lines.{Read, bad, good, orBad, mapRead, both, cut, lineOf, value, keyIn, fields, needed, perhaps, one, two}
 use Rattle.settings.specs.Settings.{Settings, Head, HeadKey, PolicyKey, QuantumKey, CostKey, CoresKey, headKeys, policyOf, ranged, inOrder, setting}
 use Rattle.script.specs.Script.{Heading, more, done, upTo8, coresOf, heading, headLine, CallKey, SpawnKey, ExitKey, JoinKey, RetiredKey, YieldKey, PrioKey, ForceKey, TickKey, CloseKey, callKeys, bareTick, callOf, calling, callLine}
 use Rattle.script.specs.Report.{Stage, heads, calls, ended, over, Report, Fed, start, refusedText, answerText, summary, created, begun, headed, said, called, fed, limitLines, lineAt, feed, feeds, finishing, finish, whole, report}
 use Rattle.script.proofs.Lengths.{refused-length, summaryText-length}
-use Rattle.script.proofs.Consistency.{consistent-step, check-rest}
+use Rattle.script.proofs.Consistency.{consistent-step}
 use Rattle.script.proofs.Prints.{allowance, few-moves, prints-step, room-of, Small, small-check}
 use Rattle.script.proofs.Streams.{whole-step, whole-end}
 use Rattle.script.proofs.Counts.{counted-accept, counted-more, modest}

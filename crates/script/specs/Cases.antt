@@ -10,7 +10,7 @@ use lib.Dec.{eqb}
 use lib.ListN.{length, take, replicate}
 use Rattle.model.specs.Types.{Policy, Off, Fifo, RoundRobin, Priority}
 use Rattle.model.specs.Calls.{Made, made, unmade}
-use Rattle.model.specs.Claims.{bound}
+use Rattle.model.specs.Bound.{bound}
 use Rattle.model.specs.Cases.{compute}
 use Rattle.text.specs.Bytes.{ascii, same, digits, decimal, valueFrom, spelled, unsigned, atMost, number}
 use Rattle.text.specs.Lines.{orBad, mapRead, both, onto, cut, before, unended, lineOf, beforeEq, value, named, keyIn, fields, needed, perhaps, one, two, commas, written}

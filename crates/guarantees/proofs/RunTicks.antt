@@ -8,11 +8,11 @@ use native.Mathlib.Omega.{arith}
 use lib.Dec.{eqb}
 use lib.ListN.{length, getElem?}
 use borrow.Author.Tests.{eq-eqb}
 use Rattle.model.specs.Types.{CoreState, Idle, Switching, Running, LeaveReason, Exit, Block, Yield, Quantum, Preempt, Forced, Core, Move, starts, leaves, takes, ThreadState, Ready, Exited, OnCore, Blocked, ThreadRecord, Accounts, State}
 use Rattle.model.specs.Phases.{update, decide}
 use Rattle.model.specs.Accounting.{addCounts, started, left, recordLeave, recordDispatch, logged, applyMove, applyMoves, runsOn, runs, holds, chargeWaiting, chargeThreads, charge}
 use Rattle.model.specs.Calls.{Call, tick, accept, coreAt, rules}
-use Rattle.model.specs.Claims.{runTicks, ranOf}
+use Rattle.guarantees.specs.Claims.{runTicks, ranOf}
 
 pub ran-same : (f : ThreadRecord → ThreadRecord) → ((t : ThreadRecord) → f t .counts .run ≡ t .counts .run) → (n : ℕ) (ts : List ThreadRecord) (x : ℕ) → ranOf (update n f ts) x ≡ ranOf ts x
 unfolding ranOf runTicks update

@@ -6,15 +6,15 @@ use mathlib.Core.Option.{Option, none, some}
 use mathlib.Core.List.{List, [], _∷_, map}
 use native.Mathlib.Omega.{arith}
 use lib.ListN.{length, getElem?, replicate}
 use Rattle.model.specs.Invariants.{States, statesOf, Each, OKAt, CoreOK, CoresOK, Loose, Placed}
 use Rattle.model.specs.Types.{Policy, CoreState, Idle, Switching, Running, Core, ThreadState, Ready, Exited, OnCore, Blocked, State}
 use Rattle.model.specs.Phases.{update, holder, withState, sliced, decide, cleared}
 use Rattle.model.specs.Accounting.{chargeThreads}
 use Rattle.model.specs.Calls.{Call, spawn, exit, join, retired, yield, priority, timing, force, tick, close, JoinOutcome, Wait, Done, Invalid, accept, stepped, refusal, step, run, rules, check, isIdle, coreAt, coreStateOf, tidOf, tidOn, leaving, anyLeaving, threadStateOf, idleCore, exited, blocking, outcome, markExit, markBlock, markYield, markProgress, unmarked, slicedAll, forcedCore, takenBy, Made, made, unmade, new, madeOf, refusedNew, initialState}
 use Rattle.model.proofs.PhaseLaws.{not-both}
-use Rattle.model.proofs.Invariants.{check-none}
+use Rattle.model.proofs.Refusals.{check-none, check-rest}
 use Rattle.model.proofs.ThreadStates.{HeldCores, decide-held, after}
-use Rattle.model.proofs.Placement.{placed-accept, placed-new, placed-force, held-on, any-none, held-ok, check-rest, statesOf-range}
+use Rattle.model.proofs.Placement.{placed-accept, placed-new, placed-force, held-on, any-none, held-ok, statesOf-range}
 
 abbrev pub heldBy : List Core → ℕ → Option ℕ
 heldBy cs i = holder (coreAt cs i .state)

@@ -9,13 +9,15 @@ use native.Mathlib.Omega.{arith}
 use lib.Dec.{eqb, leb}
 use lib.ListN.{length, getElem?}
 use borrow.Author.Tests.{eqb-true, leb-true, leb-false, eq-eqb, ne-eqb}
 use Rattle.model.specs.Invariants.{All}
 use Rattle.model.specs.Types.{Policy, RoundRobin, CoreState, Idle, Switching, Running, LeaveReason, Yield, Quantum, Core, Move, starts, leaves, takes, State}
 use Rattle.model.specs.Phases.{Rules, Turn, Pass, Phase, ascend, andThen, update, without, dispatchedState, dispatchMoves, sliced, phase1, switchedIn, isDue, phase2, leavesFor, holder, vacate, phase3, filled, phase4, handOver, wantsHandOver, quantumOver, quantumOf, phase5, phase6, phases1To4, decide, pickNext, choose, ceilingOf, withState, unyielded}
 use Rattle.model.specs.Calls.{Call, spawn, exit, join, retired, yield, priority, timing, force, tick, close, JoinOutcome, Wait, Done, Invalid, outcome, threadStateOf, tidOn, blocking, exited, markExit, markBlock, markYield, markProgress, accept, stepped, refusal, check, noCore, outOf, coreStateOf, forcedCore, takenBy, new, madeOf, made, Made, refusedNew, initialState, idleCore, beyond, rules, coreAt, isRunning, priorityOf}
-use Rattle.model.specs.Claims.{Observed, gets, takesOn, leavesOn, isNonEmpty, observed, observe, timingIs, timingKept, observeAll, refusalOf, movesOf, conditionsHold, allReported, stillWaited, ticked, addIf, charges, stayConditions, begins, unobserved}
-use Rattle.model.proofs.PhaseLaws.{All2, At, ascend-at, ascend-queue, ascend-takes, or-false-l, or-false-r, or-false, or-true-l, or-true-r, not-both, and-l, and-r, and-false, implied, other, andThen-at, andThen-before, at-update, at-core, at-put, ascend-takes-none, andThen-takes, andThen-takes-none}
-use Rattle.model.proofs.Invariants.{Inv, Covers, inv-observed, inv-observeAll, check-none, phase6-rr, Start, start, timingKept-append}
+use Rattle.guarantees.specs.Claims.{Observed, gets, takesOn, leavesOn, isNonEmpty, observed, observe, timingIs, timingKept, observeAll, refusalOf, movesOf, conditionsHold, allReported, stillWaited, ticked, addIf, charges, stayConditions, begins, unobserved}
+use Rattle.model.proofs.PhaseLaws.{At, or-false-l, or-false-r, or-false, or-true-l, or-true-r, not-both, and-l, and-r, and-false, implied, other}
+use Rattle.model.proofs.Refusals.{check-none}
+use Rattle.guarantees.proofs.PhaseMoves.{ascend-at, ascend-queue, ascend-takes, andThen-at, andThen-before, at-update, at-core, at-put, ascend-takes-none, andThen-takes, andThen-takes-none}
+use Rattle.guarantees.proofs.Invariants.{All2, Inv, Covers, inv-observed, inv-observeAll, phase6-rr, Start, start, timingKept-append}
 
 -- the ticks in which core c runs, till its thread leaves
 unfoldable pub stayTicks : (core : ℕ) → Observed → List Call → ℕ

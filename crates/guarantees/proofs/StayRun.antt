@@ -8,17 +8,19 @@ use native.Mathlib.Omega.{arith}
 use lib.Dec.{eqb}
 use lib.ListN.{length, getElem?}
 use borrow.Author.Tests.{eqb-true, eq-eqb}
 use Rattle.model.specs.Types.{RoundRobin, CoreState, Idle, Switching, Running, LeaveReason, Core, ThreadRecord, Accounts, State}
 use Rattle.model.specs.Phases.{Rules, Pass, Phase, ascend, andThen, update, holder, sliced, phase1, switchedIn, phase2, vacate, phase3, filled, phase4, handOver, phase5, phase6, phases1To4, decide}
 use Rattle.model.specs.Accounting.{addCounts, finished, setState, onThread, logged, runsOn, runs, born}
 use Rattle.model.specs.Calls.{Call, spawn, exit, join, retired, yield, priority, timing, force, tick, close, JoinOutcome, Wait, Done, Invalid, accept, stepped, refusal, rules, check, coreAt, idleCore, isRunning, tidOn, threadStateOf, exited, waiters, wake, outcome, blocking, markExit, markBlock, markYield, markProgress, new, made}
-use Rattle.model.specs.Claims.{Observed, leavesOn, observed, observe, observeAll, unobserved, refusalOf, movesOf, conditionsHold, ticked, addIf, stayConditions, timingIs, timingKept, charges, stillWaited, runTicks, ranOf, stayEnd, begins, StayBound}
-use Rattle.model.proofs.PhaseLaws.{At, at-core, ascend-at, andThen-at, andThen-before, not-both, and-l, and-r, or-true-l, or-false-r}
-use Rattle.model.proofs.Invariants.{check-none, phase6-rr, Inv, inv-observed, inv-observeAll, start}
-use Rattle.model.proofs.RunTicks.{ran-same, tick-ran, runs-at}
-use Rattle.model.proofs.Holders.{heldBy, Single, marked-held, Held, held-stepped, held-run, held-new, held-range}
-use Rattle.model.proofs.History.{observeAll-run}
-use Rattle.model.proofs.Stay.{stayTicks, stay-ticks}
+use Rattle.guarantees.specs.Claims.{Observed, leavesOn, observed, observe, observeAll, unobserved, refusalOf, movesOf, conditionsHold, ticked, addIf, stayConditions, timingIs, timingKept, charges, stillWaited, runTicks, ranOf, stayEnd, begins, StayBound}
+use Rattle.model.proofs.PhaseLaws.{At, not-both, and-l, and-r, or-true-l, or-false-r}
+use Rattle.model.proofs.Refusals.{check-none}
+use Rattle.guarantees.proofs.PhaseMoves.{at-core, ascend-at, andThen-at, andThen-before}
+use Rattle.guarantees.proofs.Invariants.{phase6-rr, Inv, inv-observed, inv-observeAll, start}
+use Rattle.guarantees.proofs.RunTicks.{ran-same, tick-ran, runs-at}
+use Rattle.guarantees.proofs.Holders.{heldBy, Single, marked-held, Held, held-stepped, held-run, held-new, held-range}
+use Rattle.guarantees.proofs.History.{observeAll-run}
+use Rattle.guarantees.proofs.Stay.{stayTicks, stay-ticks}
 
 ---- calls other than a tick charge nobody
 

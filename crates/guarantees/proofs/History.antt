@@ -10,13 +10,14 @@ use lib.Dec.{eqb, leb}
 use lib.ListN.{length, getD, set}
 use lib.Seq.{getD-set-same, getD-set-other}
 use borrow.Author.Tests.{eqb-true, eqb-false, leb-false}
 use Rattle.model.specs.Types.{Core, Move, starts, leaves, takes, State}
 use Rattle.model.specs.Phases.{update}
 use Rattle.model.specs.Calls.{Call, spawn, exit, join, retired, yield, priority, timing, force, tick, close, accept, stepped, refusal, step, run, noCore}
-use Rattle.model.specs.Claims.{Observed, takesOn, reportsAfter, reportsCleared, reports, observed, observe, observeAll, unobserved, refusalOf, movesOf, ticked, isTick, timingKept, timingIs}
+use Rattle.guarantees.specs.Claims.{Observed, takesOn, reportsAfter, reportsCleared, reports, observed, observe, observeAll, unobserved, refusalOf, movesOf, ticked, isTick, timingKept, timingIs}
 use Rattle.model.proofs.PhaseLaws.{not-both, and-l, and-r, or-false-l, or-false-r}
-use Rattle.model.proofs.Invariants.{Inv, Covers, all2-length, inv-observed, inv-observeAll, check-none, Start, start, timingKept-append}
+use Rattle.model.proofs.Refusals.{check-none}
 use Rattle.model.proofs.LoopLaws.{update-set}
+use Rattle.guarantees.proofs.Invariants.{Inv, Covers, all2-length, inv-observed, inv-observeAll, Start, start, timingKept-append}
 
 pub observeAll-run : (cs : List Call) (w : Observed) → observeAll w cs .state ≡ run (w .state) cs
 unfolding observeAll run observed step

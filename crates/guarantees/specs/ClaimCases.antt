@@ -4,20 +4,20 @@ use mathlib.Core.Path.{_≡_, refl}
 use mathlib.Core.Bool.{Bool, true, false}
 use mathlib.Core.Option.{Option, none, some}
 use mathlib.Core.List.{List, [], _∷_, _++_}
 use Rattle.model.specs.Types.{RoundRobin, State}
 use Rattle.model.specs.Calls.{Call, spawn, exit, join, retired, yield, priority, timing, force, tick, close, Made, made, unmade}
-use Rattle.model.specs.Claims.{Observed, gets, takesOn, leavesOn, reportsAfter, reportsCleared, reports, observed, observeAll, unobserved, allReported, conditionsHold, timingKept, waitConditions, ticks, getsWithin, getsNone, begins, stillWaited, stayConditions, runTicks, ranOf, stayEnd}
+use Rattle.guarantees.specs.Claims.{Observed, gets, takesOn, leavesOn, reportsAfter, reportsCleared, reports, observed, observeAll, unobserved, allReported, conditionsHold, timingKept, waitConditions, ticks, getsWithin, getsNone, begins, stillWaited, stayConditions, runTicks, ranOf, stayEnd}
 use lib.ListN.{getElem?}
-use Rattle.model.specs.Claims.{bound}
+use Rattle.model.specs.Bound.{bound}
 use Rattle.model.specs.Cases.{compute, at}
 
 judge : Unit {0}
 unfolding compute gets takesOn leavesOn reportsAfter reportsCleared reports observed observeAll unobserved allReported conditionsHold timingKept waitConditions ticks getsWithin getsNone begins stillWaited stayConditions runTicks ranOf stayEnd
 judge = tt
 
 abbrev from : {A : Type 0} → Made → A → (State → A) → A
-from (unmade n) d f = d
-from (made s) d f = f s
+from (unmade n) default f = default
+from (made s) default f = f s
 
 -- one core, quantum 2, cost 1: threads 1 and 2 are spawned, and thread 0 runs out its quantum
 abbrev start : List Call

@@ -5,23 +5,16 @@ use mathlib.Core.Bool.{Bool, true, false, cond, _||_, _&&_}
 use mathlib.Core.Option.{Option, none, some}
 use mathlib.Core.List.{List, [], _∷_, _++_, map}
 use native.Mathlib.Omega.{arith}
-use lib.Dec.{eqb, leb}
-use lib.ListN.{length, length-map}
-use borrow.Author.Tests.{eqb-true, leb-true, leb-false}
+use lib.Dec.{eqb, leb, ltb}
+use lib.ListN.{length, length-map, getElem?, replicate, length-replicate}
+use borrow.Author.Tests.{eqb-true, leb-true, leb-false, ltb-false}
 use Rattle.model.specs.Invariants.{All}
-use Rattle.model.specs.Types.{Policy, Off, Fifo, RoundRobin, Priority, CoreState, Idle, Switching, Running, LeaveReason, Core, Move, starts, leaves, takes, State}
-use Rattle.model.specs.Phases.{Rules, Turn, Pass, Phase, ascend, andThen, update, dispatchedState, dispatchMoves, sliced, phase1, switchedIn, isDue, phase2, leavesFor, holder, vacate, phase3, filled, phase4, handOver, wantsHandOver, phase5, phase6, phases1To4, decide, pickNext, ceilingOf, withState, unyielded}
-use Rattle.model.specs.Calls.{Call, spawn, exit, join, retired, yield, priority, timing, force, tick, close, JoinOutcome, Wait, Done, Invalid, accept, stepped, refusal, rules, exited, blocking, outcome, threadStateOf, tidOn, outOf, coreStateOf, slicedAll, unmarked, takenBy, forcedCore, markExit, markBlock, markYield, markProgress, priorityOf}
-use Rattle.model.specs.Claims.{Observed, reportsAfter, reportsCleared, reports, observed, observe, timingIs, timingKept, observeAll, refusalOf}
-use Rattle.model.proofs.PhaseLaws.{All2, all-update, length-update, ascend-length, ascend-all, and-l, and-r}
-use lib.ListN.{getElem?, replicate, length-replicate}
-use lib.Dec.{ltb}
-use borrow.Author.Tests.{ltb-false}
-use Rattle.model.specs.Phases.{cleared}
-use Rattle.model.specs.Types.{Config}
-use Rattle.model.specs.Calls.{check, Made, made, unmade, new, madeOf, refusedNew, initialState, idleCore, beyond}
-use Rattle.model.specs.Claims.{unobserved}
-use Rattle.model.proofs.PhaseLaws.{or-false-l, not-both}
+use Rattle.model.specs.Types.{Policy, RoundRobin, Priority, CoreState, Idle, Switching, Running, LeaveReason, Core, Move, starts, leaves, takes, State}
+use Rattle.model.specs.Phases.{Rules, Turn, Pass, Phase, ascend, andThen, update, dispatchedState, dispatchMoves, sliced, phase1, switchedIn, isDue, phase2, leavesFor, holder, vacate, phase3, filled, phase4, handOver, wantsHandOver, phase5, phase6, phases1To4, decide, pickNext, ceilingOf, withState, unyielded, cleared}
+use Rattle.model.specs.Calls.{Call, spawn, exit, join, retired, yield, priority, timing, force, tick, close, JoinOutcome, Wait, Done, Invalid, accept, stepped, refusal, rules, exited, blocking, outcome, threadStateOf, tidOn, outOf, coreStateOf, slicedAll, unmarked, takenBy, forcedCore, markExit, markBlock, markYield, markProgress, priorityOf, Made, made, unmade, new, madeOf, refusedNew, initialState, idleCore, beyond}
+use Rattle.guarantees.specs.Claims.{Observed, reportsAfter, reportsCleared, reports, observed, observe, timingIs, timingKept, observeAll, refusalOf, unobserved}
+use Rattle.model.proofs.PhaseLaws.{all-update, length-update, ascend-length, ascend-all, and-l, and-r, or-false-l, not-both, phase6-rests}
+use Rattle.model.proofs.Refusals.{check-none}
 
 ---- a core that switches has between 1 and the cost to go
 
@@ -92,14 +85,6 @@ fit-5 : (k : Rules) (i : ℕ) (c : Core) (q : List ℕ) → Fit (k .cost) c → 
 unfolding phase5
 fit-5 k i c q h = fit-handOver k i (unyielded c) q (c .state) _ _ _ h
 
--- phase 6 does something under priority only
-pub phase6-rests : (o : Policy) (k : Rules) (p : Pass) → (o ≡ Priority → ⊥) → phase6 o k p ≡ p
-unfolding phase6
-phase6-rests Off k p n = refl
-phase6-rests Fifo k p n = refl
-phase6-rests RoundRobin k p n = refl
-phase6-rests Priority k p n = absurd (n refl)
-
 pub phase6-rr : (k : Rules) (p : Pass) → k .policy ≡ RoundRobin → phase6 (k .policy) k p ≡ p
 phase6-rr k p e = subst (λ (o : Policy). phase6 o k p ≡ p) (sym e) (phase6-rests RoundRobin k p not-priority)
   where
@@ -151,6 +136,12 @@ accept-fit s (close i) r a =
     (all-map (Fit (s .config .cost)) (λ c. withState (sliced (c .state)) c) (λ c h. fit-sliced (s .config .cost) (c .state) h) (update i markExit (s .cores)) (all-update markExit (λ c h. h) i (s .cores) a))
 
 ---- a core that reported has its mark
+
+abbrev pub All2 : {A B : Type 0} → (A → B → Type 0) → List A → List B → Type 0
+All2 R [] [] = Unit {0}
+All2 R [] (b ∷ bs) = ⊥
+All2 R (a ∷ xs) [] = ⊥
+All2 R (a ∷ xs) (b ∷ bs) = R a b × All2 R xs bs
 
 abbrev pub Covers : Bool → Core → Type 0
 Covers b c = b ≡ true → c .progressed ≡ true
@@ -299,11 +290,6 @@ inv-observeAll w v [] e = v
 inv-observeAll w v (c ∷ cs) e = inv-observeAll (observe w c) (inv-observed v c (refusalOf w c) (and-l _ _ e)) cs (and-r (timingIs _ _ (observe w c .state)) _ e)
 
 ---- creation
-
-pub check-none : (n : ℕ) (b : Bool) (r : Option ℕ) → check n b r ≡ none → b ≡ false
-unfolding check
-check-none n true r e = cc
-check-none n false r e = refl
 
 fit-replicate : (k n : ℕ) → All (Fit k) (replicate n idleCore)
 fit-replicate k zero = tt

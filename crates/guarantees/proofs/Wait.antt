@@ -13,15 +13,17 @@ use lib.Dec.{eqb, leb}
 use native.Mathlib.Nat.{lt-mul-div-succ}
 use lib.ListN.{length, getElem?, replicate}
 use borrow.Author.Tests.{leb-true, leb-false, not-true}
 use Rattle.model.specs.Invariants.{All}
 use Rattle.model.specs.Types.{CoreState, Idle, Switching, Running, LeaveReason, Core, Move, starts, leaves, takes, State}
 use Rattle.model.specs.Phases.{Rules, Turn, Pass, Phase, ascend, andThen, update, without, dispatchedState, dispatchMoves, sliced, phase1, switchedIn, isDue, phase2, leavesFor, holder, vacate, phase3, filled, phase4, handOver, wantsHandOver, quantumOver, quantumOf, phase5, phase6, phases1To4, decide, pickNext, choose, withState, unyielded}
 use Rattle.model.specs.Calls.{Call, spawn, exit, join, retired, yield, priority, timing, force, tick, close, JoinOutcome, Wait, Done, Invalid, outcome, threadStateOf, tidOn, waiters, blocking, exited, markExit, markBlock, markYield, markProgress, accept, stepped, refusal, rules, elem, isRunning, isNone}
-use Rattle.model.specs.Claims.{Observed, gets, allReported, observed, observe, timingIs, timingKept, observeAll, unobserved, refusalOf, movesOf, conditionsHold, ticked, addIf, lessIf, waitConditions, ticks, getsWithin, getsNone, bound, WaitBound, WaitBound′}
-use Rattle.model.proofs.PhaseLaws.{All2, gets-append, or-false-r, or-true-l, or-true-r, not-both, and-l, and-r, and-false, implied, other}
-use Rattle.model.proofs.Invariants.{Fit, FitAt, Covers, Inv, inv-observed, inv-observeAll, Start, start, timingKept-append}
-use Rattle.model.proofs.Queue.{ahead, elem-append, ahead-append, elem-front, ahead-front, elem-at, ahead-at}
-use Rattle.model.proofs.Stay.{rr, rules-rr, without-front}
+use Rattle.model.specs.Bound.{bound}
+use Rattle.guarantees.specs.Claims.{Observed, gets, allReported, observed, observe, timingIs, timingKept, observeAll, unobserved, refusalOf, movesOf, conditionsHold, ticked, addIf, lessIf, waitConditions, ticks, getsWithin, getsNone, WaitBound, WaitBound′}
+use Rattle.model.proofs.PhaseLaws.{or-false-r, or-true-l, or-true-r, not-both, and-l, and-r, and-false, implied, other}
+use Rattle.guarantees.proofs.PhaseMoves.{gets-append}
+use Rattle.guarantees.proofs.Invariants.{Fit, FitAt, All2, Covers, Inv, inv-observed, inv-observeAll, Start, start, timingKept-append}
+use Rattle.guarantees.proofs.Queue.{ahead, elem-append, ahead-append, elem-front, ahead-front, elem-at, ahead-at}
+use Rattle.guarantees.proofs.Stay.{rr, rules-rr, without-front}
 
 pub add : List ℕ → ℕ
 add [] = 0
