@@ -1,4 +1,5 @@
 // What each call refuses, in 01's order: a ladder of early returns.
+// Its public functions are parts for other crates: no host calls them.
 use model::CallAnswer;
 use model::CoreId;
 use model::CoreState;

@@ -16,9 +16,8 @@ use Rattle.model.specs.Phases.{Pass, andThen, withState, sliced}
 use Rattle.model.specs.Accounting.{chargeThreads, charge}
 use Rattle.model.specs.Calls.{refused, ok, refusal, accept, check, stepped, step, exit, close, exited, charged, slicedAll, unmarked, markExit}
 use Rattle.model.specs.Reading.{callAnswerMeant}
-use Rattle.model.proofs.Invariants.{check-none}
+use Rattle.model.proofs.Refusals.{check-none, check-rest}
 use Rattle.model.proofs.PhaseLaws.{length-update}
-use Rattle.model.proofs.Placement.{check-rest}
 use Rattle.model.proofs.LoopLaws.{ascend-phase1}
 use Rattle.phases.specs.Cores.{passOf}
 use Rattle.charges.specs.Charging.{coresMeant}
@@ -293,6 +292,8 @@ module _ (s : Sched) (ts : List ThreadInfo) (qs ps ls ws : List ℕ) (v : Valid 
             prios = refl;
             log = d .frame .log;
             lanes = subst (λ (n : ℕ). drop n ws' ≡ drop n ws) k (C .charged .lanes .after);
+            ticks = λ j l. C .charged .ticks .rest j (subst (λ (n : ℕ). n ≤ j) (sym (cores-kept h)) l) ∙ d .frame .ticks j l;
+            places = λ j l. C .charged .lanes .rest j (subst (λ (n : ℕ). n ≤ j) (sym (cores-kept h)) l) ∙ d .frame .places j l;
           }
 
       taken-next : Done (close i) (callAnswerMeant a) s next (memory ts qs ps ls ws) (memory ts' qs₁ ps ls₁ ws')
@@ -303,7 +304,7 @@ module _ (s : Sched) (ts : List ThreadInfo) (qs ps ls ws : List ℕ) (v : Valid 
           done-taken (close i) s ts qs ps ls ws v (callAnswerMeant a) next ts' qs₁ ps ls₁ ws' (unrefused h) state-is an (ok-unrefused (callAnswerMeant a) an)
           (record { cores = z .cores; inUse = z .inUse; waiting = z .waiting; threads = omega (arith, long, z .threads); queue = z .queue; prios = z .prios; log = z .log; lanes = omega (arith, fin .long, z .lanes) })
           (record { eight = C .charged .eightLanes; events = v₁ .rings .events; segments = λ j l. C .charged .lanes .lanes j l .ok })
-          marks (C .charged .eightTicks) priorities frame
+          marks (C .words) (C .charged .eightTicks) priorities frame
 
       taken-done : Done (close i) (callAnswerMeant a) s s' (memory ts qs ps ls ws) (memory ts' qs₁ ps ls₁ ws')
       taken-done = subst (λ (x : Sched). Done (close i) (callAnswerMeant a) s x (memory ts qs ps ls ws) (memory ts' qs₁ ps ls₁ ws')) (sym (C .is)) taken-next

@@ -19,12 +19,12 @@ use Rattle.model.specs.Types.{Move}
 use Rattle.model.specs.Phases
 use Rattle.model.specs.Calls.{check, limitNow}
 use Rattle.model.specs.Reading.{coreStateMeant}
-use Rattle.model.proofs.Invariants.{check-none}
+use Rattle.model.proofs.Refusals.{check-none}
 use Rattle.turns.specs.Turns.{Short}
 use Rattle.phases.specs.Cores.{Ran}
 use Rattle.state.specs.declared.Eight.{Eight}
 use Rattle.state.specs.declared.Sched.{Sched}
-use Rattle.state.specs.State.{coreFrom, statesOf}
+use Rattle.state.specs.State.{coreFrom, packed, statesOf}
 use Rattle.checks.specs.Check.{checkMeant, coreRefusal}
 use Rattle.checks.proofs.Answers.{taken-none}
 use Rattle.sched_marks.specs.declared.Answered.{Answered}
@@ -122,8 +122,8 @@ module _ (s : Sched) (cs : List Program.CoreState) (same : cs ≡ statesOf (s .s
   pub closed-of :
       (ws ws' : List ℕ) (c : Charged) (cs' : List Program.CoreState) (e : Eight) (t : Tick) (s' : Sched) → ChargedOf s ws ws' c
       → ((ex bl yi pr : List Bool) (q : List ℕ) (m : List Move) → Ran Phases.phase1 (s .cores) (coreFrom cs ex bl yi pr) q m (coreFrom cs' ex bl yi pr) q m)
-      → statesOf e ≡ cs' → t .0 ≡ s .now .0 + 1 → s' ≡ closedSched s t c e → ClosedOf s ws ws' s'
-  closed-of ws ws' c cs' e t s' ch sl pk nx is =
+      → e ≡ packed cs' → statesOf e ≡ cs' → t .0 ≡ s .now .0 + 1 → s' ≡ closedSched s t c e → ClosedOf s ws ws' s'
+  closed-of ws ws' c cs' e t s' ch sl wo pk nx is =
       record {
         tick = t;
         counted = c;
@@ -134,4 +134,5 @@ module _ (s : Sched) (cs : List Program.CoreState) (same : cs ≡ statesOf (s .s
         sliced = λ ex bl yi pr q m.
             subst (λ (x : List Program.CoreState). Ran Phases.phase1 (s .cores) (coreFrom (statesOf (s .states)) ex bl yi pr) q m (coreFrom x ex bl yi pr) q m) (sym pk)
             (subst (λ (x : List Program.CoreState). Ran Phases.phase1 (s .cores) (coreFrom x ex bl yi pr) q m (coreFrom cs' ex bl yi pr) q m) same (sl ex bl yi pr q m));
+        words = wo ∙ ap packed (sym pk);
       }

@@ -19,7 +19,7 @@ use Rattle.turns.specs.Turns.{Short}
 use Rattle.phases.specs.Cores.{Ran}
 use Rattle.state.specs.declared.Eight.{Eight}
 use Rattle.state.specs.declared.Sched.{Sched}
-use Rattle.state.specs.State.{coreFrom, statesOf}
+use Rattle.state.specs.State.{coreFrom, packed, statesOf}
 use Rattle.checks.specs.Check.{checkMeant, coreRefusal}
 use Rattle.sched_marks.specs.declared.Answered.{Answered}
 use Rattle.exit_plan.specs.Exit.{byRefusal}
@@ -82,6 +82,7 @@ pub record ClosedOf (s : Sched) (ws ws' : List ℕ) (s' : Sched) : Type 0 where
   pub next : tick .0 ≡ s .now .0 + 1
   pub charged : ChargedOf s ws ws' counted
   pub sliced : Sliced s states
+  pub words : states ≡ packed (statesOf states)
 
 -- what the call's end asks, with e what the exit left
 pub record CloseFits (s : Sched) (core : ℕ) (e : Answered) (ws : List ℕ) : Type 0 where

@@ -1,4 +1,5 @@
 // The decisions of a tick end on a board of one core. A crate of its own, so that an edit on `decide` is checked in less than half a minute.
+// Its public functions are parts for other crates: no host calls them.
 use model::CoreId;
 use model::CoreState;
 use settings::SchedPolicy;

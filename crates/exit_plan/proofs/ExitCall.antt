@@ -18,8 +18,8 @@ use Rattle.model.specs.Phases.{update, holder}
 use Rattle.model.specs.Accounting.{finished, onThread, setState}
 use Rattle.model.specs.Calls.{Answer, ok, refusal, accept, check, exit, exited, wake, waiters, markExit, tidOn, tidOf, coreStateOf, coreAt, leaving, isIdle, limitNow, idleCore}
 use Rattle.model.specs.Reading.{coreStateMeant, threadMeant, callAnswerMeant}
-use Rattle.model.proofs.Invariants.{check-none}
-use Rattle.model.proofs.Placement.{check-rest, held-on, statesOf-range, queue-fits}
+use Rattle.model.proofs.Refusals.{check-none, check-rest}
+use Rattle.model.proofs.Placement.{held-on, statesOf-range, queue-fits}
 use Rattle.model.proofs.PhaseLaws.{length-update}
 use Rattle.model.proofs.Bounded.{bounded-accept, wake-ticks}
 use Rattle.records.specs.declared.change.Change.{Change}
@@ -338,8 +338,8 @@ module _ (s : Sched) (ts : List ThreadInfo) (qs ps ls ws : List ℕ) (v : Valid 
               done-taken (exit i) s ts qs ps ls ws v (callAnswerMeant a) next ts₂ qs₂ ps ls' ws (unrefused h) state-is an (ok-unrefused (callAnswerMeant a) an)
               (record { cores = z .cores; inUse = z .inUse; waiting = omega arith; threads = omega (arith, z .threads); queue = omega (arith, z .queue); prios = z .prios; log = omega (arith, z .log); lanes = z .lanes })
               (record { eight = v .rings .eight; events = logged .ok; segments = v .rings .segments })
-              marks (v .ticks) priorities-are
-              (record { threads = woken-all .threads .rest ∙ front-changed h .rest; queue = rw big (woken-all .queued .rest); prios = refl; log = logged .rest; lanes = refl })
+              marks (v .words) (v .ticks) priorities-are
+              (record { threads = woken-all .threads .rest ∙ front-changed h .rest; queue = rw big (woken-all .queued .rest); prios = refl; log = logged .rest; lanes = refl; ticks = λ j k. refl; places = λ j k. refl })
 
           taken-done : Done (exit i) (callAnswerMeant a) s s' (memory ts qs ps ls ws) (memory ts₂ qs₂ ps ls' ws)
           taken-done = subst (λ (x : Sched). Done (exit i) (callAnswerMeant a) s x (memory ts qs ps ls ws) (memory ts₂ qs₂ ps ls' ws)) (sym (f .taken h .0)) taken-next

@@ -15,7 +15,7 @@ use Rattle.model.specs.declared.CallAnswer.{CallAnswer}
 use Rattle.model.specs.declared.CallAnswer.the-variants as CallCases
 use Rattle.model.specs.Calls.{Answer, ok, refused}
 use Rattle.model.specs.Reading.{callAnswerMeant}
-use Rattle.model.proofs.Invariants.{check-none}
+use Rattle.model.proofs.Refusals.{check-none}
 use Rattle.rings.specs.declared.RingPos.{RingPos}
 use Rattle.rings.specs.Ring.{RingOK, capacity}
 use Rattle.rings.specs.Events.{eventsIn}

@@ -17,9 +17,10 @@ use Rattle.model.specs.Types.{CoreState, Core, Move, ThreadRecord, State}
 use Rattle.model.specs.Phases.{update, without, dispatchMoves}
 use Rattle.model.specs.Accounting.{applyMoves, switchList, takesIn}
 use Rattle.model.specs.Calls.{Answer, switched, refusal, accept, check, force, rules, noCore, coreAt, coreStateOf, anyLeaving, isSwitching, cannotTake, takenBy, outOf, backOf, forcedCore, limitSwitches, limitNow}
-use Rattle.model.specs.Reading.{coreStateMeant, threadMeant, switchesMeant, switchAnswerMeant}
-use Rattle.model.proofs.Invariants.{check-none}
-use Rattle.model.proofs.Placement.{check-rest}
+use Rattle.model.specs.Reading.{coreStateMeant, threadMeant}
+use Rattle.switches.specs.Entries.{answerWith}
+use Rattle.switches.proofs.Words.{list-says, list-taken}
+use Rattle.model.proofs.Refusals.{check-none, check-rest}
 use Rattle.model.proofs.Bounded.{all-at, applied-ticks, applied-switches, switches-figure}
 use Rattle.queue.specs.Words.{movesIn}
 use Rattle.queue.specs.Ready.{Picked}
@@ -227,14 +228,14 @@ module _ (s : Sched) (ts : List ThreadInfo) (qs ps ls ws : List ℕ) (v : Valid 
                 closed = s .closed;
               }
 
-          pub force-done : (a : CallAnswer) → a ≡ CallCases.Taken → Done (force i nm) (switchAnswerMeant a (w .switches .entries) (w .switches .count)) s s' (memory ts qs ps ls ws) (memory ts' qs' ps ls' ws')
+          pub force-done : (a : CallAnswer) → a ≡ CallCases.Taken → Done (force i nm) (answerWith a (w .switches)) s s' (memory ts qs ps ls ws) (memory ts' qs' ps ls' ws')
           unfolding accept meantAt threadsIn
           force-done a e =
-              let is : switchAnswerMeant a (w .switches .entries) (w .switches .count) ≡ switched (switchesMeant (w .switches .entries) (w .switches .count)) = ap (λ (b : CallAnswer). switchAnswerMeant b (w .switches .entries) (w .switches .count)) e in
+              let is : answerWith a (w .switches) ≡ answerWith CallCases.Taken (w .switches) = ap (λ (b : CallAnswer). answerWith b (w .switches)) e in
               let m : max (s .queued) (p .queued) ≡ s .queued = omega (arith, P .queue .fits) in
               let l : i < s .cores = leb-false (s .cores) i there-is in
               done-taken (force i nm) s ts qs ps ls ws v _ s' ts' qs' ps ls' ws' (force-refusal ∙ h) state-same
-              (is ∙ ap switched (R .list) ∙ ap (λ (x : List Move). switched (switchList [] x)) moves-same)
+              (is ∙ ap switched (list-says _ _ (R .list)) ∙ ap (λ (x : List Move). switched (switchList [] x)) moves-same)
               (λ n z. let y : _≡_ {A = ℕ} 0 1 = cc in omega arith)
               (record {
                 cores = v .sizes .cores;
@@ -248,8 +249,8 @@ module _ (s : Sched) (ts : List ThreadInfo) (qs ps ls ws : List ℕ) (v : Valid 
               })
               (record { eight = v .rings .eight; events = R .ok; segments = λ j k. rw (lane-same (s .capacities .segments) j ws ws' (P .behind)) (v .rings .segments j k) })
               (record { exits = P .exits; blocks = P .blocks; yields = P .yields; progressed = P .progressed; unused = λ j k. P .others j (λ z. omega (arith, l, k, z)) ∙ v .marks .unused j k })
-              (v .ticks) priorities-kept
-              (record { threads = moved-front .rest; queue = rw m (P .queue .behind); prios = refl; log = R .after; lanes = behind-more 80 (s .cores * (2 * s .capacities .segments)) ws ws' (P .behind) })
+              (P .words) (v .ticks) priorities-kept
+              (record { threads = moved-front .rest; queue = rw m (P .queue .behind); prios = refl; log = R .after; lanes = behind-more 80 (s .cores * (2 * s .capacities .segments)) ws ws' (P .behind); ticks = λ j k. refl; places = λ j k. refl })
 
-        pub force-pending : (a : CallAnswer) → a ≡ CallCases.Taken → ForcePending i nm (switchAnswerMeant a (w .switches .entries) (w .switches .count)) s s' (p .moves) ts qs qs' ps ls ls' ws ws'
-        force-pending a e = record { fits = force-fits; done = λ ts' g. force-done ts' g a e }
+        pub force-pending : (a : CallAnswer) → a ≡ CallCases.Taken → ForcePending i nm a (w .switches) s s' (p .moves) ts qs qs' ps ls ls' ws ws'
+        force-pending a e = record { fits = force-fits; done = λ ts' g. record { done = force-done ts' g a e; list = list-taken _ _ (R .list) a e } }

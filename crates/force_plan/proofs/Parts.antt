@@ -3,13 +3,12 @@ use Prim.Native.Nat.{ℕ, _+_, _<_, _≤_, _^_}
 use mathlib.Core.Path.{_≡_, refl, sym, ap, _∙_, subst}
 use mathlib.Core.Bool.{Bool, false}
 use mathlib.Core.Option.{Option}
-use mathlib.Core.List.{List, _++_}
+use mathlib.Core.List.{List, [], _++_}
 use native.Mathlib.Omega.{arith}
 use lib.ListN.{length, take, drop, getD}
 use lib.Seq.{length-take-le, drop-at, length-front}
 use Rattle.settings.specs.declared.Refusal.{Refusal}
 use Rattle.settings.specs.Reading.{policyMeant, refusalNumber}
-use Rattle.model.specs.declared.SwitchWords.{SwitchWords}
 use Rattle.model.specs.declared.CoreState as Program
 use Rattle.model.specs.declared.CoreState.the-variants as CoreStateCases
 use Rattle.model.specs.declared.CallAnswer.{CallAnswer}
@@ -17,21 +16,25 @@ use Rattle.model.specs.declared.CallAnswer.the-variants as CallCases
 use Rattle.model.specs.declared.ThreadInfo.{ThreadInfo}
 use Rattle.model.specs.Types.{State}
 use Rattle.model.specs.Phases.{Rules, update, without, dispatchMoves}
-use Rattle.model.specs.Calls.{Answer, force, rules, isSwitching, outOf, backOf, forcedCore}
-use Rattle.model.specs.Reading.{coreStateMeant, switchAnswerMeant}
+use Rattle.model.specs.Calls.{force, rules, switched, isSwitching, outOf, backOf, forcedCore}
+use Rattle.model.specs.Reading.{coreStateMeant}
+use Rattle.model.specs.Accounting.{switchList}
+use Rattle.switches.specs.declared.SwitchList.{SwitchList}
+use Rattle.switches.specs.Entries.{answerWith, ListFor}
+use Rattle.switches.proofs.Words.{list-refused}
 use Rattle.queue.specs.Words.{movesIn, NoLonger, Appended}
 use Rattle.queue.specs.Ready.{Picked}
 use Rattle.decide.specs.Forced.{asked}
 use Rattle.state.specs.declared.Sched.{Sched}
 use Rattle.state.specs.Memory.{memory}
-use Rattle.state.specs.State.{firsts, coreFrom, statesOf, meantAt, Valid}
-use Rattle.state.specs.Done.{Done}
+use Rattle.state.specs.State.{firsts, coreFrom, packed, statesOf, meantAt, Valid}
 use Rattle.state.proofs.Doing.{done-refused}
 use Rattle.checks.specs.Check.{checkMeant}
 use Rattle.checks.proofs.Answers.{taken-none}
 use Rattle.tick_plan.specs.declared.Planned.{Planned}
 use Rattle.tick_plan.specs.declared.Written.{Written}
 use Rattle.tick_plan.specs.Plan.{WriteFits, WrittenOf}
+use Rattle.tick_plan.specs.DoneWith.{DoneWith}
 use Rattle.tick_plan.proofs.Parts.{moves-front}
 use Rattle.tick_plan.proofs.Ticking.{rules-same}
 use Rattle.force_plan.specs.Plan.{ForcePending, AskedAt, Forceable, ForceFits, ForcedOf, forceRefusal, forcedSched}
@@ -48,8 +51,8 @@ module _ (s : Sched) (i at : ℕ) (qs qs' ws b : List ℕ) (cs cs' : List Progra
       → ((j : ℕ) → (j ≡ i → ⊥) → coreFrom cs' ex bl yi pr j ≡ coreFrom cs (s .exits) (s .blocks) (s .yields) (s .progressed) j)
       → ((who : Option ℕ) → Picked who (take (s .queued) qs) at → take queued qs' ≡ without (getD (take (s .queued) qs) at 0) (take (s .queued) qs ++ backOf (coreStateMeant (getD cs i CoreStateCases.Idle))))
       → movesIn b moves ≡ outOf i (coreStateMeant (getD cs i CoreStateCases.Idle)) ++ dispatchMoves (s .config .«switch_cost») (getD (take (s .queued) qs) at 0) i
-      → NoLonger (s .queued) queued qs qs' → Appended 3 0 moves (take 80 ws) b → ForcedOf s i at qs qs' ws (b ++ drop 80 ws) p
-  forced p e e' m m8 f lb lq made kept left moved q a =
+      → NoLonger (s .queued) queued qs qs' → Appended 3 0 moves (take 80 ws) b → p .states ≡ packed (statesOf (p .states)) → ForcedOf s i at qs qs' ws (b ++ drop 80 ws) p
+  forced p e e' m m8 f lb lq made kept left moved q a wo =
       let k : length b ≡ 80 = lb ∙ length-take-le 80 ws (f .words) in
       let few : moves ≤ 3 = omega (arith, a .fits) in
       record {
@@ -71,6 +74,7 @@ module _ (s : Sched) (i at : ℕ) (qs qs' ws b : List ℕ) (cs cs' : List Progra
         blocks = m8 .1;
         yields = m8 .2;
         progressed = m8 .3;
+        words = wo;
       }
 
 -- the place, by the priorities that the records hold
@@ -85,16 +89,19 @@ module _ (s : Sched) (ts : List ThreadInfo) (qs ps ls ws : List ℕ) (nm : Optio
 
   ---- refused: nothing is decided, and there are no moves
 
-  pub pending-refused : (i : ℕ) → Valid s (memory ts qs ps ls ws) → AskedAt s nm qs ps at → (a : CallAnswer) (x : Refusal) (entries : List SwitchWords) (count : ℕ) → a ≡ CallCases.Refused x → checkMeant a ≡ forceRefusal s i nm at
-      → ForcePending i nm (switchAnswerMeant a entries count) s s 0 ts qs qs ps ls ls ws ws
-  pending-refused i v p a x entries count e h =
+  pub pending-refused : (i : ℕ) → Valid s (memory ts qs ps ls ws) → AskedAt s nm qs ps at → (a : CallAnswer) (x : Refusal) (l : SwitchList) (zs : List ℕ) → ListFor (switched (switchList [] (movesIn zs 0))) l → a ≡ CallCases.Refused x → checkMeant a ≡ forceRefusal s i nm at
+      → ForcePending i nm a l s s 0 ts qs qs ps ls ls ws ws
+  pending-refused i v p a x l zs none-listed e h =
       record {
         fits = record { within = omega arith; known = λ k l. absurd (omega arith); room = λ k l. absurd (omega arith) };
         done = λ ts' g.
             let same : ts' ≡ ts = g 0 (λ k l. absurd (omega arith)) .rest in
-            subst (λ (l : List ThreadInfo). Done (force i nm) (switchAnswerMeant a entries count) s s (memory ts qs ps ls ws) (memory l qs ps ls ws)) (sym same)
-            (subst (λ (b : Answer). Done (force i nm) b s s (memory ts qs ps ls ws) (memory ts qs ps ls ws)) (sym (ap (λ (b : CallAnswer). switchAnswerMeant b entries count) e))
-            (done-refused (force i nm) s ts qs ps ls ws v (refusalNumber x) (F.force-refusal s ts qs ps ls ws v i nm at (place-meant v p) ∙ sym h ∙ ap checkMeant e)));
+            subst (λ (ys : List ThreadInfo). DoneWith (force i nm) (answerWith a l) l s s (memory ts qs ps ls ws) (memory ys qs ps ls ws)) (sym same)
+            (subst (λ (b : CallAnswer). DoneWith (force i nm) (answerWith b l) l s s (memory ts qs ps ls ws) (memory ts qs ps ls ws)) (sym e)
+            (record {
+              done = done-refused (force i nm) s ts qs ps ls ws v (refusalNumber x) (F.force-refusal s ts qs ps ls ws v i nm at (place-meant v p) ∙ sym h ∙ ap checkMeant e);
+              list = list-refused zs l none-listed (refusalNumber x);
+            }));
       }
 
   ---- taken
@@ -116,7 +123,7 @@ module _ (s : Sched) (ts : List ThreadInfo) (qs ps ls ws : List ℕ) (nm : Optio
     switches-fit = F.switches-fit s ts qs ps ls ws (f .valid) i nm at pick (f .unrefused)
 
     pub pending-at : (p : Planned) (w : Written) (s' : Sched) (now : ℕ) (qs' ls' ws' : List ℕ) → s' ≡ forcedSched s p w → now ≡ s .now .0 → ForcedOf s i at qs qs' ws ws' p → WrittenOf s now (movesIn ws' (p .moves)) ls ls' w
-        → ForcePending i nm (switchAnswerMeant CallCases.Taken (w .switches .entries) (w .switches .count)) s s' (p .moves) ts qs qs' ps ls ls' ws ws'
+        → ForcePending i nm CallCases.Taken (w .switches) s s' (p .moves) ts qs qs' ps ls ls' ws ws'
     pending-at p w s' now qs' ls' ws' e en P R =
-        subst (λ (x : Sched). ForcePending i nm (switchAnswerMeant CallCases.Taken (w .switches .entries) (w .switches .count)) s x (p .moves) ts qs qs' ps ls ls' ws ws') (sym e)
+        subst (λ (x : Sched). ForcePending i nm CallCases.Taken (w .switches) s x (p .moves) ts qs qs' ps ls ls' ws ws') (sym e)
         (F.force-pending s ts qs ps ls ws (f .valid) i nm at pick (f .unrefused) p w qs' ls' ws' P (subst (λ (n : ℕ). WrittenOf s n (movesIn ws' (p .moves)) ls ls' w) en R) CallCases.Taken refl)

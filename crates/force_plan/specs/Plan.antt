@@ -11,24 +11,27 @@ use Rattle.model.specs.declared.CoreState.the-variants as CoreStateCases
 use Rattle.model.specs.declared.ThreadInfo.{ThreadInfo}
 use Rattle.model.specs.Types.{CoreState, Core}
 use Rattle.model.specs.Phases.{update, without, dispatchMoves}
-use Rattle.model.specs.Calls.{Answer, force, check, anyLeaving, isSwitching, outOf, backOf, forcedCore, limitSwitches}
+use Rattle.model.specs.declared.CallAnswer.{CallAnswer}
+use Rattle.model.specs.Calls.{force, check, anyLeaving, isSwitching, outOf, backOf, forcedCore, limitSwitches}
 use Rattle.model.specs.Reading.{coreStateMeant}
 use Rattle.queue.specs.Words.{movesIn, NoLonger}
 use Rattle.queue.specs.Ready.{Picked, prioOf}
+use Rattle.switches.specs.declared.SwitchList.{SwitchList}
+use Rattle.switches.specs.Entries.{answerWith}
 use Rattle.threads.specs.Slice.{MovesFit}
 use Rattle.state.specs.declared.Sched.{Sched}
 use Rattle.state.specs.Memory.{memory}
-use Rattle.state.specs.State.{firsts, coreFrom, statesOf, moveRoom, Valid}
-use Rattle.state.specs.Done.{Done}
+use Rattle.state.specs.State.{firsts, coreFrom, packed, statesOf, moveRoom, Valid}
 use Rattle.tick_plan.specs.declared.Planned.{Planned}
 use Rattle.tick_plan.specs.declared.Written.{Written}
 use Rattle.tick_plan.specs.Plan.{MovedRecords}
+use Rattle.tick_plan.specs.DoneWith.{DoneWith}
 use Rattle.decide.specs.Forced.{asked, absent}
 
 -- a forced switch that is done once the moves are applied to the records
-pub record ForcePending (core : ℕ) (named : Option ℕ) (a : Answer) (s s' : Sched) (count : ℕ) (ts : List ThreadInfo) (qs qs' ps ls ls' ws ws' : List ℕ) : Type 0 where
+pub record ForcePending (core : ℕ) (named : Option ℕ) (a : CallAnswer) (l : SwitchList) (s s' : Sched) (count : ℕ) (ts : List ThreadInfo) (qs qs' ps ls ls' ws ws' : List ℕ) : Type 0 where
   pub fits : MovesFit ts ws' count
-  pub done : (ts' : List ThreadInfo) → MovedRecords (s .now .0) ws' count ts ts' → Done (force core named) a s s' (memory ts qs ps ls ws) (memory ts' qs' ps ls' ws')
+  pub done : (ts' : List ThreadInfo) → MovedRecords (s .now .0) ws' count ts ts' → DoneWith (force core named) (answerWith a l) l s s' (memory ts qs ps ls ws) (memory ts' qs' ps ls' ws')
 
 abbrev pub coresOf : Sched → ℕ → Core
 coresOf s = coreFrom (statesOf (s .states)) (s .exits) (s .blocks) (s .yields) (s .progressed)
@@ -77,6 +80,7 @@ pub record ForcedOf (s : Sched) (core at : ℕ) (qs qs' ws ws' : List ℕ) (p : 
   pub blocks : length (p .blocks) ≡ 8
   pub yields : length (p .yields) ≡ 8
   pub progressed : length (p .progressed) ≡ 8
+  pub words : p .states ≡ packed (statesOf (p .states))
 
 -- the state that is left
 abbrev pub forcedSched : Sched → Planned → Written → Sched

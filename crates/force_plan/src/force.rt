@@ -20,7 +20,7 @@ ghost use mathlib.Core.Option.{Option};
 ghost use Prim.Native.Nat.{ℕ, _+_, _<_, _≤_, _^_};
 ghost use lib.ListN.{length};
 ghost use Rattle.model.specs.declared.ThreadInfo.{ThreadInfo};
-ghost use Rattle.model.specs.Reading.{optionTidMeant, switchAnswerMeant};
+ghost use Rattle.model.specs.Reading.{optionTidMeant};
 ghost use Rattle.state.specs.Memory.{memory};
 ghost use Rattle.state.specs.State.{Valid};
 ghost use Rattle.force_plan.specs.Plan.{AskedAt, ForceFits, ForcedOf, Forceable, ForcePending, forcedSched};
@@ -122,7 +122,8 @@ fn force_taken(
     requires { ⌜ ((named : Option ℕ) × ((ts : List ThreadInfo) × ((ps : List ℕ) × Forceable s (core .0) named at ts (now queue) ps (now log) (now lanes)))) ⌝ }
     ensures { λ r. ⌜ ((named : Option ℕ) (ts : List ThreadInfo) (ps : List ℕ)
         → Forceable s (core .0) named at ts (now (queue .entry)) ps (now (log .entry)) (now (lanes .entry))
-        → ForcePending (core .0) named (switchAnswerMeant (r .answer) (r .switches .entries) (r .switches .count)) s (r .sched) (r .moves) ts (now (queue .entry)) (now (queue .exit)) ps (now (log .entry)) (now (log .exit)) (now (lanes .entry)) (now (lanes .exit))) ⌝ }
+        → ForcePending (core .0) named (r .answer) (r .switches) s (r .sched) (r .moves) ts
+        (now (queue .entry)) (now (queue .exit)) ps (now (log .entry)) (now (log .exit)) (now (lanes .entry)) (now (lanes .exit))) ⌝ }
 {
     let planned = plan(s, core, at, queue, lanes);
     let tick = present_tick(s);
@@ -149,7 +150,8 @@ pub fn force_decided(
 ) -> Decided
     requires { ⌜ ((ts : List ThreadInfo) × Valid s (memory ts (now queue) (now prios) (now log) (now lanes))) ⌝ }
     ensures { λ r. ⌜ ((ts : List ThreadInfo) → Valid s (memory ts (now (queue .entry)) (now (prios .entry)) (now (log .entry)) (now (lanes .entry)))
-        → ForcePending (core .0) (optionTidMeant named) (switchAnswerMeant (r .answer) (r .switches .entries) (r .switches .count)) s (r .sched) (r .moves) ts (now (queue .entry)) (now (queue .exit)) (now (prios .entry)) (now (log .entry)) (now (log .exit)) (now (lanes .entry)) (now (lanes .exit))) ⌝ }
+        → ForcePending (core .0) (optionTidMeant named) (r .answer) (r .switches) s (r .sched) (r .moves) ts
+        (now (queue .entry)) (now (queue .exit)) (now (prios .entry)) (now (log .entry)) (now (log .exit)) (now (lanes .entry)) (now (lanes .exit))) ⌝ }
 {
     let at = place(s, named, queue, prios);
     let answer = check_force(s, core, named, at);

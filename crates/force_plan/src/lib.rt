@@ -1,5 +1,6 @@
 // What `force_switch` does beside the thread records: it refuses, or decides and writes the log. The records are moved by the crate above, which
 // holds the lent slice.
+// Its public functions are parts for other crates: no host calls them.
 pub mod force;
 
 use checks::LIMIT;

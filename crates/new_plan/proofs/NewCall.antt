@@ -25,8 +25,7 @@ use Rattle.model.specs.Accounting.{newest, started, addCounts, born}
 use Rattle.model.specs.Calls.{idleCore, check, initialState, refusedNew, new, made, madeOf}
 use Rattle.model.specs.Reading.{threadMeant, coreTicksMeant}
 use Rattle.model.proofs.Bounded.{bounded-new}
-use Rattle.model.proofs.Invariants.{check-none}
-use Rattle.model.proofs.Placement.{check-rest}
+use Rattle.model.proofs.Refusals.{check-none, check-rest}
 use Rattle.model.proofs.PhaseLaws.{or-false-l, or-false-r}
 use Rattle.records.specs.Changes.{firstThread}
 use Rattle.rings.specs.declared.RingPos.{RingPos}
@@ -265,13 +264,18 @@ module _ (c : SchedConfig) (n : ℕ) (k : Capacities) (entry : ℕ) (ts : List T
           sizes = record { cores = few-cores h; inUse = omega arith; waiting = omega arith; threads = omega arith; queue = queue-fits h; prios = omega arith; log = omega arith; lanes = lanes-fit h };
           rings = record { eight = refl; events = logged .ok; segments = lane-ok };
           marks = record { exits = refl; blocks = refl; yields = refl; progressed = refl; unused = unused-idle };
+          words = refl;
           ticks = refl;
           priorities = priorities-are;
           bounded = subst Bounded (sym state-is) (bounded h);
         }
 
+    no-ticks : (i : ℕ) → getD (s .ticks) i noTicks ≡ noTicks
+    unfolding firstSched
+    no-ticks i = getD-same noTicks 8 i
+
     pub new-taken : NewTaken c n k entry (memory ts qs ps ls ws) (memory ts' qs ps' ls' ws) s
-    new-taken = record { state = is-new h ∙ ap made (sym state-is); valid = valid-is; threads = drop-firsts (sameAt t) 1 ts; queue = refl; prios = rest-set 10 ps; log = logged .rest; lanes = refl }
+    new-taken = record { state = is-new h ∙ ap made (sym state-is); valid = valid-is; threads = drop-firsts (sameAt t) 1 ts; queue = refl; prios = rest-set 10 ps; log = logged .rest; lanes = refl; ticks = λ i l. no-ticks i; places = λ i l. no-lane i }
 
   module _ (g : CallAnswer) (e : checkMeant g ≡ why) (t : ThreadInfo) (first : threadMeant t ≡ firstThread entry) (ts' : List ThreadInfo) (w : ts' ≡ Walk.firsts (sameAt t) (takenCount (checkMeant g)) ts)
       (ps' ls' : List ℕ) (s : Sched) (a : CallAnswer) (f : CreatedAs c n k g ps ps' ls ls' s a) where

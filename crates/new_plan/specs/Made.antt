@@ -1,9 +1,10 @@
 -- What `new` promises: a refused call writes nothing; a taken one leaves the definition's first state, and what every call asks.
-use Prim.Native.Nat.{ℕ, _*_}
+-- Open is, and nothing else: the state that a refused call hands back; where in its ring an event stands, and the ring's slots that hold none.
+use Prim.Native.Nat.{ℕ, _*_, _≤_}
 use mathlib.Core.Path.{_≡_}
 use mathlib.Core.Option.{Option, none, some}
 use mathlib.Core.List.{List}
-use lib.ListN.{length, drop}
+use lib.ListN.{length, drop, getD}
 use Rattle.settings.specs.declared.SchedConfig.{SchedConfig}
 use Rattle.settings.specs.Reading.{policyMeant}
 use Rattle.model.specs.declared.ThreadInfo.{ThreadInfo}
@@ -12,7 +13,7 @@ use Rattle.model.specs.Calls.{new, made}
 use Rattle.state.specs.declared.Capacities.{Capacities}
 use Rattle.state.specs.declared.Sched.{Sched}
 use Rattle.state.specs.Memory.{Memory, Unchanged}
-use Rattle.state.specs.State.{meant, Valid}
+use Rattle.state.specs.State.{meant, Valid, noTicks, noPos}
 use Rattle.checks.specs.Check.{checkMeant}
 use Rattle.new_plan.specs.First.{newRefusal}
 
@@ -28,6 +29,9 @@ pub record NewTaken (c : SchedConfig) (n : ℕ) (k : Capacities) (entry : ℕ) (
   pub prios : drop 1 (m' .prios) ≡ drop 1 (m .prios)
   pub log : drop (2 * k .events) (m' .log) ≡ drop (2 * k .events) (m .log)
   pub lanes : m' .lanes ≡ m .lanes
+  -- of cores that do not exist the counters are 0 and the rings empty
+  pub ticks : (i : ℕ) → s .cores ≤ i → getD (s .ticks) i noTicks ≡ noTicks
+  pub places : (i : ℕ) → s .cores ≤ i → getD (s .lanes) i noPos ≡ noPos
 
 pub record NewDone (c : SchedConfig) (n : ℕ) (k : Capacities) (entry : ℕ) (m m' : Memory) (s : Sched) (a : CallAnswer) : Type 0 where
   pub answer : checkMeant a ≡ newRefusal c n k (length (m .threads)) (length (m .queue)) (length (m .prios)) (length (m .log)) (length (m .lanes))

@@ -1,4 +1,5 @@
 // The parts of the call `new` that hold no thread record: what it refuses, the first state, and what is written of priorities and log.
+// Its public functions are parts for other crates: no host calls them.
 use model::CallAnswer;
 use model::CoreId;
 use model::CoreTicks;

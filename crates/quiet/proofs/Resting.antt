@@ -10,7 +10,7 @@ use Rattle.model.specs.Types.{Policy, Off, Fifo, RoundRobin, Priority, CoreStat
 use Rattle.model.specs.Phases.{Rules, Pass, Phase, ascend, andThen, withState, unmoved, sliced, switchedIn, phase2, vacate, phase3, filled, phase4, quantumOf, quantumOver, handOver, phase5, phase6, phases1To4, decide, isPreemptive}
 use Rattle.model.specs.Calls.{slicedAll}
 use Rattle.model.proofs.PhaseLaws.{not-both}
-use Rattle.model.proofs.Invariants.{phase6-rests}
+use Rattle.model.proofs.PhaseLaws.{phase6-rests}
 use Rattle.model.proofs.LoopLaws.{ascend-phase1}
 use Rattle.quiet.specs.Quiet.{calmIn, calm, isPriority}
 

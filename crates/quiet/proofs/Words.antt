@@ -1,6 +1,6 @@
 -- One core in words: whether it keeps its thread, and one tick further.
 use Prim.Native.Nat.{ℕ, zero, suc, _+_, _<_, _≤_}
-use mathlib.Core.Path.{_≡_, refl}
+use mathlib.Core.Path.{_≡_, refl, ap}
 use mathlib.Core.Bool.{Bool, true, false, not, _&&_, _||_}
 use native.Mathlib.Numerals.{add-one}
 use native.Mathlib.Omega.{arith}
@@ -11,7 +11,8 @@ use Rattle.model.specs.Phases.{sliced}
 use Rattle.model.specs.Reading.{coreStateMeant}
 use Rattle.model.proofs.PhaseLaws.{not-both}
 use Rattle.turns.specs.Turns.{Short}
-use Rattle.state.specs.State.{stateFrom}
+use Rattle.state.specs.declared.CoreWords.{CoreWords}
+use Rattle.state.specs.State.{stateFrom, wordsOf}
 use Rattle.quiet.specs.Quiet.{calmIn, slicedBelow}
 
 pub running : (k t u : ℕ) → 2 ≤ k → coreStateMeant (stateFrom k t u) ≡ Running t u
@@ -69,3 +70,10 @@ pub calm-held : (k t u : ℕ) (pe : Bool) (q : ℕ) (e b y p : Bool) → calmIn 
 calm-held zero t u pe q e b y p h s = absurd (not-both false h refl)
 calm-held (suc zero) t u pe q e b y p h s = absurd (not-both false h refl)
 calm-held (suc (suc k)) t u pe q e b y p h s = (omega arith, s)
+
+-- words that no other state has stay so with another slice
+pub words-further : (k t u v : ℕ) → 2 ≤ k → _≡_ {A = CoreWords} (record { kind = k; tid = t; count = u }) (wordsOf (stateFrom k t u))
+    → _≡_ {A = CoreWords} (record { kind = k; tid = t; count = v }) (wordsOf (stateFrom k t v))
+words-further zero t u v l h = absurd (omega arith)
+words-further (suc zero) t u v l h = absurd (omega arith)
+words-further (suc (suc k)) t u v l h = λ i. record { kind = ap (λ (w : CoreWords). w .kind) h i; tid = t; count = v }

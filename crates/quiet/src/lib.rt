@@ -1,6 +1,7 @@
 // A tick end that switches nothing: told from the state, and what it leaves of the core states. Both work on the words between calls, so that such a tick neither
 // runs the phases nor packs the core states anew.
 // With one core the seven others are left out, not tested one by one.
+// Its public functions are parts for other crates: no host calls them.
 use settings::SchedPolicy;
 use state::CoreWords;
 use state::Eight;
@@ -12,7 +13,7 @@ ghost use lib.Dec.{leb};
 ghost use lib.ListN.{getD};
 ghost use Rattle.settings.specs.Reading.{policyMeant};
 ghost use Rattle.model.specs.Reading.{coreStateMeant};
-ghost use Rattle.state.specs.State.{stateIn};
+ghost use Rattle.state.specs.State.{wordsOf, packed, stateIn, statesOf};
 ghost use Rattle.quiet.specs.Quiet.{calmIn, calmAt, eachBelow, isPriority, isQuiet, slicedBelow, stateAt, Roomy};
 
 fn is_priority(policy: SchedPolicy) -> bool
@@ -119,7 +120,8 @@ pub fn is_quiet(s: Sched) -> bool
 // Core i of n, one tick further; a core that is not there stays as it is.
 fn sliced_words(w: CoreWords, n: usize, i: usize) -> CoreWords
     requires { ⌜ (i < n → (2 ≤ w .kind) × (w .count < 4294967295)) ⌝ }
-    ensures { λ r. ⌜ coreStateMeant (stateIn r) ≡ slicedBelow n i (coreStateMeant (stateIn w)) ⌝ }
+    ensures state { λ r. ⌜ coreStateMeant (stateIn r) ≡ slicedBelow n i (coreStateMeant (stateIn w)) ⌝ }
+    ensures words { λ r. ⌜ (w ≡ wordsOf (stateIn w) → r ≡ wordsOf (stateIn r)) ⌝ }
 {
     if n <= i {
         return w;
@@ -134,7 +136,8 @@ fn sliced_words(w: CoreWords, n: usize, i: usize) -> CoreWords
 // The core states after a quiet tick.
 pub fn sliced_states(s: Sched) -> Eight
     requires { ⌜ (s .cores ≤ 8) × (isQuiet s ≡ true) × Roomy s ⌝ }
-    ensures { λ r. ⌜ ((j : ℕ) → stateAt r j ≡ slicedBelow (s .cores) j (stateAt (s .states) j)) ⌝ }
+    ensures states { λ r. ⌜ ((j : ℕ) → stateAt r j ≡ slicedBelow (s .cores) j (stateAt (s .states) j)) ⌝ }
+    ensures words { λ r. ⌜ (s .states ≡ packed (statesOf (s .states)) → r ≡ packed (statesOf r)) ⌝ }
 {
     let n = s.cores;
     let w = s.states;

@@ -1,5 +1,6 @@
 -- What the functions that convert answers return, arm by arm, and what the converted answers stand for.
 use mathlib.Core.Path.{_≡_, refl, sym}
+use native.Mathlib.Omega.{arith}
 use Rattle.model.specs.declared.CallAnswer.{CallAnswer}
 use Rattle.model.specs.declared.CallAnswer.the-variants as CallCases
 use Rattle.model.specs.declared.SpawnAnswer.{SpawnAnswer}
@@ -14,7 +15,7 @@ use Rattle.sched_threads.specs.declared.answers.JoinAnswered.{JoinAnswered}
 use Rattle.tick_plan.specs.declared.Ticked.{Ticked}
 use Rattle.sched.specs.declared.Applied.{Applied}
 use Rattle.sched.specs.Meant.{outcomeMeant}
-use Rattle.switches.specs.Entries.{noSwitches}
+use Rattle.switches.specs.Entries.{noSwitches, ListFor}
 use Rattle.sched.specs.Answers.{taken, spawned, joined, switched, ofAnswered, ofSpawn, ofJoin, ofTicked}
 
 pub made-answered : (a : Answered) (x : CallAnswer) (l : SwitchList) → a .answer ≡ x → l ≡ noSwitches → _≡_ {A = Applied} (record { sched = a .sched; outcome = taken x; switches = l }) (ofAnswered a)
@@ -46,3 +47,20 @@ joined-meant (JoinCases.Refused r) l = refl
 pub switched-meant : (x : CallAnswer) (l : SwitchList) → switchAnswerMeant x (l .entries) (l .count) ≡ outcomeMeant (switched x) l
 switched-meant CallCases.Taken l = refl
 switched-meant (CallCases.Refused r) l = refl
+
+---- an answer without a list has none beside it
+
+pub taken-list : (x : CallAnswer) → ListFor (callAnswerMeant x) noSwitches
+unfolding noSwitches
+taken-list CallCases.Taken = record { list = refl; few = omega arith }
+taken-list (CallCases.Refused r) = record { list = refl; few = omega arith }
+
+pub spawned-list : (x : SpawnAnswer) → ListFor (spawnAnswerMeant x) noSwitches
+unfolding noSwitches
+spawned-list (SpawnCases.Spawned t) = record { list = refl; few = omega arith }
+spawned-list (SpawnCases.Refused r) = record { list = refl; few = omega arith }
+
+pub joined-list : (x : JoinAnswer) → ListFor (joinAnswerMeant x) noSwitches
+unfolding noSwitches
+joined-list (JoinCases.Joined o) = record { list = refl; few = omega arith }
+joined-list (JoinCases.Refused r) = record { list = refl; few = omega arith }

@@ -1,4 +1,5 @@
 // Any call applied to the scheduler: one function for lists of calls, scripts and traces.
+// `apply` is for hosts; what `answers` has are parts.
 pub mod answers;
 
 use answers::of_answered;
@@ -25,7 +26,7 @@ use state::Sched;
 use switches::SwitchList;
 ghost use Rattle.state.specs.Memory.{lent};
 ghost use Rattle.state.specs.State.{Valid};
-ghost use Rattle.state.specs.Done.{Done};
+ghost use Rattle.tick_plan.specs.DoneWith.{DoneWith};
 ghost use Rattle.sched.specs.Meant.{callMeant, outcomeMeant};
 
 // A call with its arguments.
@@ -69,7 +70,7 @@ pub fn apply(
     lanes: &mut [u64],
 ) -> Applied
     requires { ⌜ Valid s (lent threads queue prios log lanes) ⌝ }
-    ensures { λ r. ⌜ Done (callMeant call) (outcomeMeant (r .outcome) (r .switches)) s (r .sched)
+    ensures { λ r. ⌜ DoneWith (callMeant call) (outcomeMeant (r .outcome) (r .switches)) (r .switches) s (r .sched)
         (lent (threads .entry) (queue .entry) (prios .entry) (log .entry) (lanes .entry))
         (lent (threads .exit) (queue .exit) (prios .exit) (log .exit) (lanes .exit)) ⌝ }
 {

@@ -9,11 +9,12 @@ use threads::apply_moves;
 use tick_plan::Ticked;
 use tick_plan::tick::moves_of;
 use tick_plan::tick::ticked;
-ghost use Rattle.model.specs.Reading.{optionTidMeant, switchAnswerMeant};
+ghost use Rattle.model.specs.Reading.{optionTidMeant};
 ghost use Rattle.model.specs.Calls;
 ghost use Rattle.state.specs.Memory.{lent};
 ghost use Rattle.state.specs.State.{Valid};
-ghost use Rattle.state.specs.Done.{Done};
+ghost use Rattle.switches.specs.Entries.{answerWith};
+ghost use Rattle.tick_plan.specs.DoneWith.{DoneWith};
 
 // The named thread, or the next one, takes the core; a thread that runs there goes to the back. No tick passes: the moves are written at `now`.
 pub fn force_switch(
@@ -27,8 +28,7 @@ pub fn force_switch(
     lanes: &mut [u64],
 ) -> Ticked
     requires { ⌜ Valid s (lent threads queue prios log lanes) ⌝ }
-    ensures { λ r. ⌜ Done (Calls.force (core .0) (optionTidMeant named))
-        (switchAnswerMeant (r .answer) (r .switches .entries) (r .switches .count)) s (r .sched)
+    ensures { λ r. ⌜ DoneWith (Calls.force (core .0) (optionTidMeant named)) (answerWith (r .answer) (r .switches)) (r .switches) s (r .sched)
         (lent (threads .entry) (queue .entry) (prios .entry) (log .entry) (lanes .entry))
         (lent (threads .exit) (queue .exit) (prios .entry) (log .exit) (lanes .exit)) ⌝ }
 {

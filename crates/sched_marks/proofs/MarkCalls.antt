@@ -14,7 +14,7 @@ use Rattle.model.specs.declared.ThreadInfo.{ThreadInfo}
 use Rattle.model.specs.Types.{Core, State}
 use Rattle.model.specs.Phases.{update}
 use Rattle.model.specs.Calls.{Answer, ok, refusal, accept, check, retired, timing, markProgress, idleCore}
-use Rattle.model.proofs.Invariants.{check-none}
+use Rattle.model.proofs.Refusals.{check-none}
 use Rattle.state.specs.declared.Sched.{Sched}
 use Rattle.state.specs.Memory.{memory}
 use Rattle.state.specs.State.{firsts, coreFrom, statesOf, meantAt, Marks, Valid}
@@ -36,8 +36,8 @@ module _ (s : Sched) (ts : List ThreadInfo) (qs ps ls ws : List ℕ) (v : Valid 
   retired-done i a e h =
       done-taken (retired i) s ts qs ps ls ws v a (withProgressed (set (s .progressed) i true) s) ts qs ps ls ws (retired-refusal s ts qs ls ws i ∙ h)
       (ap (λ (cs : List Core). record { config = meantAt s ts qs ls ws .config; cores = cs; queue = meantAt s ts qs ls ws .queue; accounts = meantAt s ts qs ls ws .accounts; now = s .now .0; closed = s .closed }) marked)
-      e (ok-unrefused a e) (v .sizes) (v .rings) marks (v .ticks) (v .priorities)
-      (record { threads = refl; queue = refl; prios = refl; log = refl; lanes = refl })
+      e (ok-unrefused a e) (v .sizes) (v .rings) marks (v .words) (v .ticks) (v .priorities)
+      (record { threads = refl; queue = refl; prios = refl; log = refl; lanes = refl; ticks = λ j k. refl; places = λ j k. refl })
     where
       l : i < s .cores
       l = retired-place s i h
@@ -74,5 +74,5 @@ module _ (s : Sched) (ts : List ThreadInfo) (qs ps ls ws : List ℕ) (v : Valid 
   timing-taken q w k a e h p t c =
       done-taken (timing q w) s ts qs ps ls ws v a (withConfig k s) ts qs ps ls ws (timing-refusal s ts qs ls ws q w ∙ h)
       (rw (p, t, c))
-      e (ok-unrefused a e) (v .sizes) (v .rings) (v .marks) (v .ticks) (v .priorities)
-      (record { threads = refl; queue = refl; prios = refl; log = refl; lanes = refl })
+      e (ok-unrefused a e) (v .sizes) (v .rings) (v .marks) (v .words) (v .ticks) (v .priorities)
+      (record { threads = refl; queue = refl; prios = refl; log = refl; lanes = refl; ticks = λ j k. refl; places = λ j k. refl })

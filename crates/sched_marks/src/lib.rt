@@ -1,4 +1,5 @@
 // The calls that touch neither thread records nor lent memory: `retired` and `set_timing`.
+// Both are for hosts; `at_least_one` is a part.
 pub mod marks;
 
 use model::CallAnswer;

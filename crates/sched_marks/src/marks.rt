@@ -15,11 +15,12 @@ ghost use Rattle.model.specs.Reading.{callAnswerMeant};
 ghost use Rattle.model.specs.Calls as Calls;
 ghost use Rattle.state.specs.Memory.{memory};
 ghost use Rattle.state.specs.State.{Valid};
+ghost use Rattle.state.specs.Asked.{Askable, nothing};
 ghost use Rattle.state.specs.Done.{Done};
 
 // "`retired` sets the core's progressed mark, also on an idle or switching core."
 pub fn retired(s: Sched, core: CoreId) -> Answered
-    requires { ⌜ s .cores ≤ 8 ⌝ }
+    requires { ⌜ Askable s nothing ⌝ }
     ensures { λ r. ⌜ ((ts : List ThreadInfo) (qs ps ls ws : List ℕ) → Valid s (memory ts qs ps ls ws)
         → Done (Calls.retired (core .0)) (callAnswerMeant (r .answer)) s (r .sched) (memory ts qs ps ls ws) (memory ts qs ps ls ws)) ⌝ }
 {

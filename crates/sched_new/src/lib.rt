@@ -1,4 +1,5 @@
 // The call `new`.
+// `new` is for hosts; `set_first` is a part.
 use model::ThreadInfo;
 use new_plan::Created;
 use new_plan::check_new;

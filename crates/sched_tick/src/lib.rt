@@ -10,11 +10,11 @@ use tick_plan::tick::next_tick;
 use tick_plan::tick::tick_decided;
 use tick_plan::tick::tick_threads;
 use tick_plan::tick::ticked;
-ghost use Rattle.model.specs.Reading.{switchAnswerMeant};
 ghost use Rattle.model.specs.Calls;
 ghost use Rattle.state.specs.Memory.{lent};
 ghost use Rattle.state.specs.State.{Valid};
-ghost use Rattle.state.specs.Done.{Done};
+ghost use Rattle.switches.specs.Entries.{answerWith};
+ghost use Rattle.tick_plan.specs.DoneWith.{DoneWith};
 
 // Phase 1 charges, then now + 1; the phases decide; what they decide is written into the accounts at the new tick.
 pub fn end_tick(
@@ -26,7 +26,7 @@ pub fn end_tick(
     lanes: &mut [u64],
 ) -> Ticked
     requires { ⌜ Valid s (lent threads queue prios log lanes) ⌝ }
-    ensures { λ r. ⌜ Done Calls.tick (switchAnswerMeant (r .answer) (r .switches .entries) (r .switches .count)) s (r .sched)
+    ensures { λ r. ⌜ DoneWith Calls.tick (answerWith (r .answer) (r .switches)) (r .switches) s (r .sched)
         (lent (threads .entry) (queue .entry) (prios .entry) (log .entry) (lanes .entry))
         (lent (threads .exit) (queue .exit) (prios .entry) (log .exit) (lanes .exit)) ⌝ }
 {

@@ -1,3 +1,4 @@
+pub mod Asked
 pub mod Done
 pub mod Memory
 pub mod State

@@ -34,19 +34,39 @@ use Rattle.state.specs.declared.Sched.{Sched}
 abbrev pub stateFrom : (kind tid count : ℕ) → Program.CoreState
 stateFrom zero t n = CoreStateCases.Idle
 stateFrom (suc zero) t n = CoreStateCases.Switching (record { 0 = t }) n
-stateFrom (suc (suc k)) t n = CoreStateCases.Running (record { 0 = t }) n
+stateFrom (suc (suc kind)) t n = CoreStateCases.Running (record { 0 = t }) n
 
 abbrev pub stateIn : CoreWords → Program.CoreState
-stateIn w = stateFrom (w .kind) (w .tid) (w .count)
+stateIn words = stateFrom (words .kind) (words .tid) (words .count)
 
 abbrev pub statesOf : Eight → List Program.CoreState
-statesOf e = stateIn (e .c0) ∷ stateIn (e .c1) ∷ stateIn (e .c2) ∷ stateIn (e .c3) ∷ stateIn (e .c4) ∷ stateIn (e .c5) ∷ stateIn (e .c6) ∷ stateIn (e .c7) ∷ []
+statesOf eight = stateIn (eight .c0) ∷ stateIn (eight .c1) ∷ stateIn (eight .c2) ∷ stateIn (eight .c3) ∷ stateIn (eight .c4) ∷ stateIn (eight .c5) ∷ stateIn (eight .c6) ∷ stateIn (eight .c7) ∷ []
+
+-- the words of a core state: 0 for idle, with zeros, 1 for switching, 2 for running
+abbrev pub wordsOf : Program.CoreState → CoreWords
+wordsOf CoreStateCases.Idle = record { kind = 0; tid = 0; count = 0 }
+wordsOf (CoreStateCases.Switching t n) = record { kind = 1; tid = t .0; count = n }
+wordsOf (CoreStateCases.Running t n) = record { kind = 2; tid = t .0; count = n }
 
 abbrev idleWords : CoreWords
-idleWords = record { kind = 0; tid = 0; count = 0 }
+idleWords = wordsOf CoreStateCases.Idle
+
+-- eight core states in words: no other words stand for them
+abbrev pub packed : List Program.CoreState → Eight
+packed states =
+    record {
+      c0 = wordsOf (getD states 0 CoreStateCases.Idle);
+      c1 = wordsOf (getD states 1 CoreStateCases.Idle);
+      c2 = wordsOf (getD states 2 CoreStateCases.Idle);
+      c3 = wordsOf (getD states 3 CoreStateCases.Idle);
+      c4 = wordsOf (getD states 4 CoreStateCases.Idle);
+      c5 = wordsOf (getD states 5 CoreStateCases.Idle);
+      c6 = wordsOf (getD states 6 CoreStateCases.Idle);
+      c7 = wordsOf (getD states 7 CoreStateCases.Idle);
+    }
 
 abbrev pub othersIdle : CoreWords → Eight
-othersIdle w = record { c0 = w; c1 = idleWords; c2 = idleWords; c3 = idleWords; c4 = idleWords; c5 = idleWords; c6 = idleWords; c7 = idleWords }
+othersIdle words = record { c0 = words; c1 = idleWords; c2 = idleWords; c3 = idleWords; c4 = idleWords; c5 = idleWords; c6 = idleWords; c7 = idleWords }
 
 abbrev pub noTicks : Counters.CoreTicks
 noTicks = record { busy = 0; switching = 0; idle = 0 }
@@ -60,13 +80,13 @@ moveRoom = 80
 
 -- where core i's segments begin, and where they stand
 abbrev pub laneStart : (capS i : ℕ) → ℕ
-laneStart c i = moveRoom + i * (2 * c)
+laneStart capS i = moveRoom + i * (2 * capS)
 
 abbrev pub laneWords : (capS i : ℕ) → List ℕ → List ℕ
-laneWords c i ws = take (2 * c) (drop (laneStart c i) ws)
+laneWords capS i ws = take (2 * capS) (drop (laneStart capS i) ws)
 
 abbrev pub logWords : (capE : ℕ) → List ℕ → List ℕ
-logWords c ws = take (2 * c) ws
+logWords capE ls = take (2 * capE) ls
 
 unfoldable pub meantAt : Sched → List ThreadInfo → (queue log lanes : List ℕ) → State
 meantAt s ts qs ls ws =
@@ -96,22 +116,22 @@ meantAt s ts qs ls ws =
 abbrev pub meant : Sched → Memory → State
 meant s m = meantAt s (m .threads) (m .queue) (m .log) (m .lanes)
 
--- the memory holds what the capacities promise: c cores, n threads, q of them in the queue
-pub record Sizes (k : Capacities) (c n q : ℕ) (m : Memory) : Type 0 where
-  pub cores : c ≤ 8
-  pub inUse : n ≤ k .threads
-  pub waiting : q ≤ k .threads
-  pub threads : k .threads ≤ length (m .threads)
-  pub queue : k .threads ≤ length (m .queue)
-  pub prios : k .threads ≤ length (m .prios)
-  pub log : 2 * k .events ≤ length (m .log)
-  pub lanes : laneStart (k .segments) c ≤ length (m .lanes)
+-- the memory holds what the capacities promise
+pub record Sizes (capacities : Capacities) (coreCount threadCount queued : ℕ) (m : Memory) : Type 0 where
+  pub cores : coreCount ≤ 8
+  pub inUse : threadCount ≤ capacities .threads
+  pub waiting : queued ≤ capacities .threads
+  pub threads : capacities .threads ≤ length (m .threads)
+  pub queue : capacities .threads ≤ length (m .queue)
+  pub prios : capacities .threads ≤ length (m .prios)
+  pub log : 2 * capacities .events ≤ length (m .log)
+  pub lanes : laneStart (capacities .segments) coreCount ≤ length (m .lanes)
 
 -- the rings' positions are within their memory
-pub record Rings (k : Capacities) (cores : ℕ) (log : RingPos) (lanes : List RingPos) (ls ws : List ℕ) : Type 0 where
+pub record Rings (capacities : Capacities) (cores : ℕ) (log : RingPos) (lanes : List RingPos) (ls ws : List ℕ) : Type 0 where
   pub eight : length lanes ≡ 8
-  pub events : RingOK (logWords (k .events) ls) log
-  pub segments : (i : ℕ) → i < cores → RingOK (laneWords (k .segments) i ws) (getD lanes i noPos)
+  pub events : RingOK (logWords (capacities .events) ls) log
+  pub segments : (i : ℕ) → i < cores → RingOK (laneWords (capacities .segments) i ws) (getD lanes i noPos)
 
 -- arrays of eight are lists of eight; a core that is not there is idle and unmarked
 pub record Marks (cores : ℕ) (states : List Program.CoreState) (ex bl yi pr : List Bool) : Type 0 where
@@ -126,6 +146,8 @@ pub record Valid (s : Sched) (m : Memory) : Type 0 where
   pub sizes : Sizes (s .capacities) (s .cores) (s .threads) (s .queued) m
   pub rings : Rings (s .capacities) (s .cores) (s .log) (s .lanes) (m .log) (m .lanes)
   pub marks : Marks (s .cores) (statesOf (s .states)) (s .exits) (s .blocks) (s .yields) (s .progressed)
+  -- the words of the core states are determined by the states
+  pub words : s .states ≡ packed (statesOf (s .states))
   pub ticks : length (s .ticks) ≡ 8
   pub priorities : take (s .threads) (m .prios) ≡ map (λ (t : ThreadRecord). t .priority) (meant s m .accounts .threads)
   pub bounded : Bounded (meant s m)

@@ -1,5 +1,6 @@
 // The scheduler's state between calls: one struct by value, beside the memory that the host lends. specs/State.antt says which state of the
 // definition it stands for, together with that memory.
+// Its public functions are parts for other crates: no host calls them.
 use model::CoreState;
 use model::CoreTicks;
 use model::Tick;
@@ -9,7 +10,7 @@ use settings::SchedConfig;
 ghost use mathlib.Core.Path.{_≡_};
 ghost use lib.ListN.{getD};
 ghost use Rattle.model.specs.declared.CoreState.the-variants;
-ghost use Rattle.state.specs.State.{stateIn, statesOf, othersIdle};
+ghost use Rattle.state.specs.State.{wordsOf, packed, stateIn, statesOf, othersIdle};
 
 // A core state in three words: idle, switching or running by `kind`, the thread, and its `left` or `slice`. A copy of an enum moves the bytes behind its tag
 // one by one, and the state is copied in each call.
@@ -58,7 +59,7 @@ pub struct Sched {
 }
 
 pub fn words_of(s: CoreState) -> CoreWords
-    ensures { λ r. ⌜ stateIn r ≡ s ⌝ }
+    ensures { λ r. ⌜ r ≡ wordsOf s ⌝ }
 {
     match s {
         CoreState::Idle => CoreWords {
@@ -111,7 +112,8 @@ pub fn unpack(e: Eight) -> [CoreState; 8]
 }
 
 pub fn pack(a: [CoreState; 8]) -> Eight
-    ensures { λ r. ⌜ statesOf r ≡ a ⌝ }
+    ensures words { λ r. ⌜ r ≡ packed a ⌝ }
+    ensures states { λ r. ⌜ statesOf r ≡ a ⌝ }
 {
     let c0 = words_of(a[0]);
     let c1 = words_of(a[1]);

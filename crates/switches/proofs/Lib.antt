@@ -1,3 +1,4 @@
 pub mod Cores
 pub mod Few
 pub mod Stored
+pub mod Words

@@ -1,11 +1,11 @@
 -- A move's entry is stored in the front of an array: that makes the definition's list of it.
 -- Assumes nothing.
-use Prim.Native.Nat.{ℕ, zero, suc, _+_, _≤_, _<_, min, max, suc-le-suc}
-use mathlib.Core.Path.{_≡_, refl, sym, ap, subst, _∙_}
+use Prim.Native.Nat.{ℕ, zero, suc, _+_, _-_, _≤_, _<_, min, max, suc-le-suc}
+use mathlib.Core.Path.{_≡_, refl, sym, ap, ap₂, subst, _∙_}
 use mathlib.Core.Bool.{Bool, true, false, cond}
 use mathlib.Core.Logic.{_≢_}
 use mathlib.Core.Option.{none, some}
-use mathlib.Core.List.{List, [], _∷_, map, map-append}
+use mathlib.Core.List.{List, [], _∷_, _++_, map, map-append}
 use native.Mathlib.Nat.{le-of-suc-le-suc, not-suc-le-zero, suc-max-suc, max-zero}
 use native.Mathlib.Numerals.{add-one}
 use native.Mathlib.Omega.{arith}
@@ -13,13 +13,18 @@ use borrow.Author.Tests.{eqb-true, eqb-false}
 use lib.Dec.{eqb}
 use lib.ListN.{length, getD, set, take, replicate, length-set, length-map, getD-replicate}
 use lib.Seq.{take-suc, getD-set-same, getD-set-other, length-take-le}
-use Rattle.model.specs.Types.{Forced, Move, starts, leaves, takes, SwitchEntry}
+use Rattle.model.specs.Types.{LeaveReason, Forced, Move, starts, leaves, takes, SwitchEntry}
 use Rattle.model.specs.Accounting.{touched, switchList}
 use Rattle.model.specs.Reading.{outFrom, innFrom, switchWordsMeant, switchesMeant}
+use Rattle.model.specs.declared.CoreId.{CoreId}
+use Rattle.model.specs.declared.Tid.{Tid}
 use Rattle.model.specs.declared.SwitchWords.{SwitchWords}
+use Rattle.model.specs.Calls.{switched}
 use Rattle.model.proofs.LoopLaws.{switchList-append}
 use Rattle.queue.specs.Words.{decode, movesIn}
-use Rattle.switches.specs.Entries.{coreTouched, entryAfter, noSwitch}
+use Rattle.switches.specs.declared.SwitchList.{SwitchList}
+use Rattle.switches.specs.Entries.{coreTouched, entryAfter, reasonNumber, entryWords, noSwitch, listOf, ListFor}
+use Rattle.switches.proofs.Words.{InWords, words-meant, words-written}
 use Rattle.switches.proofs.Cores.{cores, added, touch-cores, slot, placed, slot-placed, slot-within, placed-here, placed-other}
 use Rattle.switches.proofs.Few.{CoreBelow, word-below, few}
 
@@ -97,11 +102,12 @@ pub record Listed (l : List SwitchWords) (places : List ℕ) (n : ℕ) (es : Lis
   pub cells : length places ≡ 8
   pub meant : switchesMeant l n ≡ es
   pub rest : BlankFrom n l
+  pub words : (j : ℕ) → InWords (getD l j noSwitch)
   pub place : (i : ℕ) → i < 8 → getD places i 0 ≡ placed i (cores es) 0
 
 pub listed-none : Listed (replicate 8 noSwitch) (replicate 8 8) 0 []
 unfolding placed
-listed-none = record { fits = omega arith; eight = refl; cells = refl; meant = refl; rest = λ j h. blanks 8 j; place = λ i h. getD-replicate 8 i 8 0 h }
+listed-none = record { fits = omega arith; eight = refl; cells = refl; meant = refl; rest = λ j h. blanks 8 j; words = λ j. rw (blanks 8 j); place = λ i h. getD-replicate 8 i 8 0 h }
   where
     blanks : (n j : ℕ) → getD (replicate n noSwitch) j noSwitch ≡ noSwitch
     blanks zero j = refl
@@ -124,20 +130,25 @@ module _ (l : List SwitchWords) (places : List ℕ) (n : ℕ) (es : List SwitchE
         omega (arith, at-slot, slot-within (coreTouched m) (cores es), ap length (switch-cores m es h), length-map (switchList es (m ∷ [])) (λ (e : SwitchEntry). e .core))
 
     pub listed-more :
-        at < 8 → (x : SwitchWords) → switchWordsMeant x ≡ entryAfter m (switchWordsMeant (getD l at noSwitch)) → (n' : ℕ) → n' ≡ max n (at + 1)
+        at < 8 → (x : SwitchWords) → x ≡ entryWords (entryAfter m (switchWordsMeant (getD l at noSwitch))) → (n' : ℕ) → n' ≡ max n (at + 1)
         → Listed (set l at x) (set places (coreTouched m) at) n' (switchList es (m ∷ []))
     listed-more r x e n' k =
         record {
           fits = omega (arith, a .fits);
           eight = length-set l at x ∙ a .eight;
           cells = length-set places (coreTouched m) at ∙ a .cells;
-          meant = rw (k, add-one, ← a .meant) (move-stored m h l n at x (a .rest) (rw (a .meant) at-slot) (omega (arith, a .eight)) e);
+          meant = rw (k, add-one, ← a .meant) (move-stored m h l n at x (a .rest) (rw (a .meant) at-slot) (omega (arith, a .eight)) (ap switchWordsMeant e ∙ words-meant _));
           rest = λ j g. getD-set-other l at j x noSwitch (before j g) ∙ a .rest j (omega arith);
+          words = λ j. written-after j (eqb j at) refl;
           place = λ i g. placed-after i g (eqb i (coreTouched m)) refl;
         }
       where
         before : (j : ℕ) → n' ≤ j → j ≢ at
         before j g = λ z. omega arith
+
+        written-after : (j : ℕ) (b : Bool) → eqb j at ≡ b → InWords (getD (set l at x) j noSwitch)
+        written-after j true q = rw (eqb-true j at q, getD-set-same l at x noSwitch (omega (arith, a .eight))) (subst InWords (sym e) (words-written (entryAfter m (switchWordsMeant (getD l at noSwitch)))))
+        written-after j false q = rw (getD-set-other l at j x noSwitch (eqb-false j at q)) (a .words j)
 
         placed-after : (i : ℕ) → i < 8 → (b : Bool) → eqb i (coreTouched m) ≡ b → getD (set places (coreTouched m) at) i 0 ≡ placed i (cores (switchList es (m ∷ []))) 0
         placed-after i g true q =
@@ -161,5 +172,28 @@ module _ (out : List ℕ) (k : ℕ) (h : k < length out) (l : List SwitchWords) 
     pub turn-room : at < 8
     turn-room = listed-room l places n _ a m (omega arith) at (rw ec at p) (rw (next-move out k m h e) (few out (k + 1)))
 
-    pub turn-more : (x : SwitchWords) → switchWordsMeant x ≡ entryAfter m (switchWordsMeant (getD l at noSwitch)) → (n' : ℕ) → n' ≡ max n (at + 1) → Listed (set l at x) (set places c at) n' (switchList [] (movesIn out (k + 1)))
+    pub turn-more : (x : SwitchWords) → x ≡ entryWords (entryAfter m (switchWordsMeant (getD l at noSwitch))) → (n' : ℕ) → n' ≡ max n (at + 1) → Listed (set l at x) (set places c at) n' (switchList [] (movesIn out (k + 1)))
     turn-more x q n' r = rw (ec, ← next-move out k m h e) (listed-more l places n _ a m (omega arith) at (rw ec at p) turn-room x q n' r)
+
+---- the loop's end: the array is the list in words
+
+shaped : (l : List SwitchWords) (n k : ℕ) → n + k ≡ length l → BlankFrom n l → ((j : ℕ) → InWords (getD l j noSwitch)) → l ≡ map entryWords (switchesMeant l n) ++ replicate k noSwitch
+shaped [] zero zero h b w = refl
+shaped [] zero (suc k) h b w = absurd (omega arith)
+shaped [] (suc n) k h b w = absurd (omega arith)
+shaped (y ∷ l) zero zero h b w = absurd (omega arith)
+shaped (y ∷ l) zero (suc k) h b w = ap₂ (λ (x : SwitchWords) (r : List SwitchWords). x ∷ r) (b 0 (omega arith)) (shaped l zero k (omega arith) (λ j g. b (suc j) (omega arith)) (λ j. w (suc j)))
+shaped (y ∷ l) (suc n) k h b w = ap₂ (λ (x : SwitchWords) (r : List SwitchWords). x ∷ r) (w 0) (shaped l n k (omega arith) (λ j g. b (suc j) (suc-le-suc g)) (λ j. w (suc j)))
+
+pub listed-is : (l : List SwitchWords) (places : List ℕ) (n : ℕ) (es : List SwitchEntry) → Listed l places n es → ListFor (switched es) (record { entries = l; count = n })
+unfolding listOf
+listed-is l places n es a = record { list = whole; few = a .fits }
+  where
+    long : n ≡ length es
+    long = sym (ap length (sym (a .meant)) ∙ length-map (take n l) switchWordsMeant ∙ length-take-le n l (omega (arith, a .fits, a .eight)))
+
+    entries : l ≡ map entryWords es ++ replicate (8 - length es) noSwitch
+    entries = rw (a .meant) at (shaped l n (8 - length es) (omega (arith, a .fits, a .eight, long)) (a .rest) (a .words))
+
+    whole : _≡_ {A = SwitchList} (record { entries = l; count = n }) (record { entries = map entryWords es ++ replicate (8 - length es) noSwitch; count = length es })
+    whole = λ i. record { entries = entries i; count = long i }

@@ -1,4 +1,5 @@
 // The switch list: "One entry per core touched, in order of first touch: thread out with reason, thread in."
+// `switch_of` is for hosts, who read a list by it; the others are parts.
 use model::CoreId;
 use model::LeaveReason;
 use model::OptionOut;
@@ -14,10 +15,11 @@ ghost use mathlib.Core.Option.{some};
 ghost use mathlib.Core.List.{[]};
 ghost use Prim.Native.Nat.{ℕ, _+_, _<_, _≤_, min, max};
 ghost use lib.ListN.{length};
-ghost use Rattle.model.specs.Reading.{reasonMeant, optionOutMeant, outFrom, switchMeant, switchWordsMeant, switchesMeant};
+ghost use Rattle.model.specs.Reading.{reasonMeant, optionOutMeant, outFrom, switchMeant, switchWordsMeant};
 ghost use Rattle.model.specs.Accounting.{switchList};
+ghost use Rattle.model.specs.Calls.{switched};
 ghost use Rattle.queue.specs.Words.{movesIn, moveMeant};
-ghost use Rattle.switches.specs.Entries.{coreTouched, entryAfter, noSwitches};
+ghost use Rattle.switches.specs.Entries.{coreTouched, entryAfter, reasonNumber, entryWords, noSwitches, ListFor};
 
 // The list is entries[..count].
 pub struct SwitchList {
@@ -27,7 +29,7 @@ pub struct SwitchList {
 
 // The number of a reason; 0 stands for no leave.
 fn reason_word(reason: LeaveReason) -> u16
-    ensures { λ r. ⌜ ((t : ℕ) → outFrom r t ≡ some (record { tid = t; reason = reasonMeant reason })) ⌝ }
+    ensures { λ r. ⌜ r ≡ reasonNumber (reasonMeant reason) ⌝ }
 {
     match reason {
         LeaveReason::Exit => 1,
@@ -127,7 +129,8 @@ fn core_touched(m: Move) -> usize
 
 // The entry of the core that a move touches, after the move.
 fn entry_after(e: SwitchWords, m: Move) -> SwitchWords
-    ensures { λ r. ⌜ switchWordsMeant r ≡ entryAfter (moveMeant m) (switchWordsMeant e) ⌝ }
+    requires { ⌜ e ≡ entryWords (switchWordsMeant e) ⌝ }
+    ensures { λ r. ⌜ r ≡ entryWords (entryAfter (moveMeant m) (switchWordsMeant e)) ⌝ }
 {
     match m {
         Move::Starts { tid: _ } => e,
@@ -178,8 +181,7 @@ fn entry_count(count: usize, at: usize) -> usize
 // The switch list of the first n moves. Each core has at most one entry, so eight are enough.
 pub fn switch_list(out: &[u64], n: usize) -> SwitchList
     requires { ⌜ n ≤ length (now out) ⌝ }
-    ensures list { λ r. ⌜ switchesMeant (r .entries) (r .count) ≡ switchList [] (movesIn (now (out .entry)) n) ⌝ }
-    ensures fits { λ r. ⌜ (r .count ≤ 8) × (length (r .entries) ≡ 8) ⌝ }
+    ensures { λ r. ⌜ ListFor (switched (switchList [] (movesIn (now (out .entry)) n))) r ⌝ }
 {
     let none = SwitchWords {
         core: CoreId(0),

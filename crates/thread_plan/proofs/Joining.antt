@@ -62,8 +62,8 @@ module _ (s : Sched) (ts : List ThreadInfo) (qs ps ls ws : List ℕ) (v : Valid 
         log = z .log;
         lanes = z .lanes;
       })
-      (v .rings) ma (v .ticks) (v .priorities ∙ sym (ap (map (λ (t : ThreadRecord). t .priority)) records ∙ map-kept (λ (t : ThreadRecord). t .priority) g u (map threadMeant (take (s .threads) ts)) keeps))
-      (record { threads = f (s .threads) l .rest; queue = refl; prios = refl; log = refl; lanes = refl })
+      (v .rings) ma (v .words) (v .ticks) (v .priorities ∙ sym (ap (map (λ (t : ThreadRecord). t .priority)) records ∙ map-kept (λ (t : ThreadRecord). t .priority) g u (map threadMeant (take (s .threads) ts)) keeps))
+      (record { threads = f (s .threads) l .rest; queue = refl; prios = refl; log = refl; lanes = refl; ticks = λ j k. refl; places = λ j k. refl })
 
   ---- how a join turns out
 
@@ -121,8 +121,8 @@ module _ (s : Sched) (ts : List ThreadInfo) (qs ps ls ws : List ℕ) (v : Valid 
           there = some-record s ts qs ps ls ws v;
           fits = tt;
           done = λ ts' f. subst (λ (l : List ThreadInfo). Done (join i t) a s s (memory ts qs ps ls ws) (memory l qs ps ls ws)) (sym (keep-same ts ts' f))
-              (done-taken (join i t) s ts qs ps ls ws v a s ts qs ps ls ws (join-refusal s ts qs ls ws i t ∙ h) (sym st ∙ ap (λ (x : JoinOutcome). blocking M i t x) eo) (e ∙ ap joined eo) (unrefused o a e) (v .sizes) (v .rings) (v .marks) (v .ticks) (v .priorities)
-              (record { threads = refl; queue = refl; prios = refl; log = refl; lanes = refl }));
+              (done-taken (join i t) s ts qs ps ls ws v a s ts qs ps ls ws (join-refusal s ts qs ls ws i t ∙ h) (sym st ∙ ap (λ (x : JoinOutcome). blocking M i t x) eo) (e ∙ ap joined eo) (unrefused o a e) (v .sizes) (v .rings) (v .marks) (v .words) (v .ticks) (v .priorities)
+              (record { threads = refl; queue = refl; prios = refl; log = refl; lanes = refl; ticks = λ j k. refl; places = λ j k. refl }));
         }
 
 pub still-done : (m : State) (i t : ℕ) (o : JoinOutcomes.JoinOutcome) → o ≡ JoinCases.Done → blocking m i t (joinMeant o) ≡ m

@@ -15,8 +15,8 @@ use Rattle.model.specs.Types.{Core, CoreState, Idle, Switching, Running, OnCore
 use Rattle.model.specs.Phases.{update, holder}
 use Rattle.model.specs.Reading.{coreStateMeant}
 use Rattle.model.specs.Calls.{refusal, join, coreAt, coreStateOf, isIdle, isRunning, tidOf, tidOn, markBlock, markYield, idleCore}
-use Rattle.model.proofs.Invariants.{check-none}
-use Rattle.model.proofs.Placement.{check-rest, held-on, statesOf-range}
+use Rattle.model.proofs.Refusals.{check-none, check-rest}
+use Rattle.model.proofs.Placement.{held-on, statesOf-range}
 use Rattle.model.proofs.PhaseLaws.{not-both}
 use Rattle.model.specs.Invariants as Invariants
 use Rattle.threads.specs.Slice.{threadsIn}

@@ -13,7 +13,7 @@ use Rattle.model.specs.Phases.{update}
 use Rattle.model.specs.Reading.{threadMeant}
 use Rattle.model.specs.Accounting.{setPriority, logged}
 use Rattle.model.specs.Calls.{Answer, ok, accept, priority}
-use Rattle.model.proofs.Invariants.{check-none}
+use Rattle.model.proofs.Refusals.{check-none}
 use Rattle.rings.specs.declared.RingPos.{RingPos}
 use Rattle.records.specs.declared.change.Change.the-variants as Changes
 use Rattle.records.specs.Changes.{changeMeant}
@@ -72,8 +72,8 @@ module _ (s : Sched) (ts : List ThreadInfo) (qs ps ls ws : List ℕ) (v : Valid 
           log = omega (arith, z .log, g .size);
           lanes = z .lanes;
         })
-        (record { eight = v .rings .eight; events = g .ok; segments = v .rings .segments }) (v .marks) (v .ticks) prios
-        (record { threads = f (s .threads) l .rest; queue = refl; prios = drop-set-lt (s .threads) ps i n l; log = g .rest; lanes = refl })
+        (record { eight = v .rings .eight; events = g .ok; segments = v .rings .segments }) (v .marks) (v .words) (v .ticks) prios
+        (record { threads = f (s .threads) l .rest; queue = refl; prios = drop-set-lt (s .threads) ps i n l; log = g .rest; lanes = refl; ticks = λ j k. refl; places = λ j k. refl })
 
   pub priority-taken :
       (i n : ℕ) (p : RingPos) (ls' : List ℕ) (a : Answer) → a ≡ ok → priorityRefusal s i ≡ none → Logged (s .capacities .events) (record { tick = s .now .0; tid = i; kind = Reprioritised n }) ls ls' (s .log) p

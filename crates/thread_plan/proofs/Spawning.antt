@@ -17,8 +17,8 @@ use Rattle.model.specs.Phases.{update}
 use Rattle.model.specs.Reading.{threadMeant, optionTidMeant}
 use Rattle.model.specs.Accounting.{born, logged, newest}
 use Rattle.model.specs.Calls.{Answer, spawned, refused, accept, spawn, priorityOf, parentOf}
-use Rattle.model.proofs.Invariants.{check-none}
-use Rattle.model.proofs.Placement.{check-rest, queue-fits}
+use Rattle.model.proofs.Refusals.{check-none, check-rest}
+use Rattle.model.proofs.Placement.{queue-fits}
 use Rattle.rings.specs.declared.RingPos.{RingPos}
 use Rattle.rings.proofs.RingLaws.{element}
 use Rattle.records.specs.declared.change.Change.the-variants as Changes
@@ -151,13 +151,15 @@ module _ (s : Sched) (ts : List ThreadInfo) (qs ps ls ws : List ℕ) (v : Valid 
           log = omega (arith, z .log, g .size);
           lanes = z .lanes;
         })
-        (record { eight = v .rings .eight; events = g .ok; segments = v .rings .segments }) (v .marks) (v .ticks) prios
+        (record { eight = v .rings .eight; events = g .ok; segments = v .rings .segments }) (v .marks) (v .words) (v .ticks) prios
         (record {
           threads = f (s .threads + 1) (omega arith) .rest;
           queue = drop-set-lt (max (s .queued) (s .queued + 1)) qs (s .queued) (s .threads) (omega arith);
           prios = drop-set-lt (s .threads + 1) ps (s .threads) prio (omega arith);
           log = g .rest;
           lanes = refl;
+          ticks = λ j k. refl;
+          places = λ j k. refl;
         })
 
   pub spawn-taken :

@@ -18,7 +18,7 @@ use Rattle.model.specs.Phases.{update}
 use Rattle.model.specs.Reading.{threadMeant}
 use Rattle.model.specs.Accounting.{addCounts}
 use Rattle.model.specs.Calls.{Answer, ok, accept, check, refusal, yield, tidOn, yieldsOf, limitNow}
-use Rattle.model.proofs.Invariants.{check-none}
+use Rattle.model.proofs.Refusals.{check-none}
 use Rattle.records.specs.declared.change.Change.the-variants as Changes
 use Rattle.records.specs.Changes.{changeMeant}
 use Rattle.threads.specs.Slice.{blank, threadsIn}

@@ -16,7 +16,7 @@ use Rattle.queue.specs.Words.{NoLonger, Appended}
 use Rattle.turns.specs.Turns.{rulesOf, Short}
 use Rattle.phases.specs.Cores.{observed}
 use Rattle.state.specs.declared.Sched.{Sched}
-use Rattle.state.specs.State.{firsts, coreFrom, stateIn, statesOf}
+use Rattle.state.specs.State.{firsts, coreFrom, packed, stateIn, statesOf}
 use Rattle.quiet.specs.Quiet.{isPriority}
 use Rattle.tick_plan.specs.declared.Planned.{Planned}
 use Rattle.tick_plan.specs.Plan.{PlanFits, PlannedOf}
@@ -46,7 +46,8 @@ module _ (s : Sched) (qs qs' ps ws b : List ℕ) (x x' : Program.CoreState) (ex 
       → ((cs : List Program.CoreState) → observed 1 (x' ∷ cs) ex bl yi pr qs' queued b moves
       ≡ decide (rulesOf (s .config .policy) (s .config .quantum) (s .config .«switch_cost») (take (s .threads) ps)) (firsts (coreFrom (x ∷ cs) (s .exits) (s .blocks) (s .yields) (s .progressed)) 1) (take (s .queued) qs))
       → ((cs : List Program.CoreState) (j : ℕ) → 1 ≤ j → coreFrom (x' ∷ cs) ex bl yi pr j ≡ coreFrom (x ∷ cs) (s .exits) (s .blocks) (s .yields) (s .progressed) j)
-      → NoLonger (s .queued) queued qs qs' → Appended 10 0 moves (take 80 ws) b → PlannedOf s qs qs' ps ws (b ++ drop 80 ws) p
-  planned-one p one e e' m m8 l80 lb lq d u q a =
+      → NoLonger (s .queued) queued qs qs' → Appended 10 0 moves (take 80 ws) b
+      → (s .states ≡ packed (statesOf (s .states)) → p .states ≡ packed (statesOf (p .states))) → PlannedOf s qs qs' ps ws (b ++ drop 80 ws) p
+  planned-one p one e e' m m8 l80 lb lq d u q a wo =
       planned s qs qs' ps ws b (x ∷ others) (x' ∷ others) ex bl yi pr queued moves p (ap (λ (y : Program.CoreState). y ∷ others) e) e' m m8 (omega (arith, one)) l80 lb lq (rw one (d others))
-      (λ j l. u others j (omega (arith, one, l))) q (rw one a)
+      (λ j l. u others j (omega (arith, one, l))) q (rw one a) wo

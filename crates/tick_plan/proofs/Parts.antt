@@ -18,7 +18,9 @@ use Rattle.model.specs.declared.Tick.{Tick}
 use Rattle.model.specs.Types.{Core, Event, Move}
 use Rattle.model.specs.Phases.{Pass, decide}
 use Rattle.model.specs.Accounting.{switchList, takesIn}
-use Rattle.model.specs.Reading.{coreStateMeant, switchesMeant, switchAnswerMeant}
+use Rattle.model.specs.Reading.{coreStateMeant}
+use Rattle.model.specs.Calls.{switched}
+use Rattle.switches.specs.Entries.{ListFor}
 use Rattle.queue.specs.Words.{decode, movesIn, NoLonger, Appended}
 use Rattle.turns.specs.Turns.{rulesOf, Short}
 use Rattle.phases.specs.Cores.{passOf, observed}
@@ -27,7 +29,7 @@ use Rattle.rings.specs.Ring.{capacity, RingOK}
 use Rattle.rings.specs.Events.{eventsIn}
 use Rattle.state.specs.declared.Sched.{Sched}
 use Rattle.state.specs.Memory.{memory}
-use Rattle.state.specs.State.{firsts, coreFrom, statesOf, logWords, Valid}
+use Rattle.state.specs.State.{firsts, coreFrom, packed, statesOf, logWords, Valid}
 use Rattle.accounts.specs.Charging.{TicksCharged, LanesCharged}
 use Rattle.accounts.specs.Log.{movedLog}
 use Rattle.accounts.proofs.Figures.{log-capacity}
@@ -58,7 +60,7 @@ short-same s cs e h j l = subst (λ (x : List Program.CoreState). Short (coreSta
 -- the ring's words stand in the front of the log
 pub written : (c : ℕ) (pos : RingPos) (now : ℕ) (ms : List Move) (ls b : List ℕ) (w : Written) → 2 * c ≤ length ls → length b ≡ length (take (2 * c) ls) → RingOK b (w .log)
     → eventsIn b (w .log) ≡ movedLog (capacity (take (2 * c) ls)) now ms (eventsIn (take (2 * c) ls) pos) → w .takes ≡ takesIn ms
-    → switchesMeant (w .switches .entries) (w .switches .count) ≡ switchList [] ms → WrittenAt c pos now ms ls (b ++ drop (2 * c) ls) w
+    → ListFor (switched (switchList [] ms)) (w .switches) → WrittenAt c pos now ms ls (b ++ drop (2 * c) ls) w
 written c pos now ms ls b w h l ok ev ta sw =
     let k : length b ≡ 2 * c = l ∙ length-take-le (2 * c) ls h in
     let e : logWords c (b ++ drop (2 * c) ls) ≡ b = take-at b (drop (2 * c) ls) (2 * c) k in
@@ -85,9 +87,10 @@ module _ (s : Sched) (qs qs' ps ws b : List ℕ) (cs cs' : List Program.CoreStat
       → observed (s .cores) cs' ex bl yi pr qs' queued b moves
       ≡ decide (rulesOf (s .config .policy) (s .config .quantum) (s .config .«switch_cost») (take (s .threads) ps)) (firsts (coreFrom cs (s .exits) (s .blocks) (s .yields) (s .progressed)) (s .cores)) (take (s .queued) qs)
       → ((j : ℕ) → s .cores ≤ j → coreFrom cs' ex bl yi pr j ≡ coreFrom cs (s .exits) (s .blocks) (s .yields) (s .progressed) j)
-      → NoLonger (s .queued) queued qs qs' → Appended (10 * s .cores) 0 moves (take 80 ws) b → PlannedOf s qs qs' ps ws (b ++ drop 80 ws) p
+      → NoLonger (s .queued) queued qs qs' → Appended (10 * s .cores) 0 moves (take 80 ws) b
+      → (s .states ≡ packed (statesOf (s .states)) → p .states ≡ packed (statesOf (p .states))) → PlannedOf s qs qs' ps ws (b ++ drop 80 ws) p
   unfolding passOf
-  planned p e e' m m8 n8 l80 lb lq d u q a =
+  planned p e e' m m8 n8 l80 lb lq d u q a wo =
       let k : length b ≡ 80 = lb ∙ length-take-le 80 ws l80 in
       let few : moves ≤ 80 = omega (arith, a .fits) in
       let same : (j : ℕ) → coreFrom (statesOf (p .states)) (p .exits) (p .blocks) (p .yields) (p .progressed) j ≡ coreFrom cs' ex bl yi pr j = λ j. rw (e', m .0, m .1, m .2, m .3) in
@@ -107,12 +110,13 @@ module _ (s : Sched) (qs qs' ps ws b : List ℕ) (cs cs' : List Program.CoreStat
         blocks = m8 .1;
         yields = m8 .2;
         progressed = m8 .3;
+        words = wo;
       }
 
 -- all parts of a tick end that is taken
 pub pending-at : (s : Sched) (ts : List ThreadInfo) (qs ps ls ws : List ℕ) → Valid s (memory ts qs ps ls ws) → tickRefusal s ≡ none → (t : Tick) (c : Charged) (p : Planned) (w : Written) (s' : Sched) (qs' ls' ws₁ ws' : List ℕ) → s' ≡ tickedSched s t c p w → t .0 ≡ s .now .0 + 1
     → ChargedOf s ws ws₁ c → PlannedOf s qs qs' ps ws₁ ws' p → WrittenOf s (t .0) (movesIn ws' (p .moves)) ls ls' w → (a : CallAnswer) → a ≡ CallCases.Taken
-    → TickPending (switchAnswerMeant a (w .switches .entries) (w .switches .count)) s s' (p .moves) ts qs qs' ps ls ls' ws ws'
+    → TickPending a (w .switches) s s' (p .moves) ts qs qs' ps ls ls' ws ws'
 pending-at s ts qs ps ls ws v h t c p w s' qs' ls' ws₁ ws' e et C P R a ea =
-    subst (λ (x : Sched). TickPending (switchAnswerMeant a (w .switches .entries) (w .switches .count)) s x (p .moves) ts qs qs' ps ls ls' ws ws') (sym e)
+    subst (λ (x : Sched). TickPending a (w .switches) s x (p .moves) ts qs qs' ps ls ls' ws ws') (sym e)
     (tick-pending s ts qs ps ls ws v h t c p w qs' ls' ws₁ ws' et C P (subst (λ (n : ℕ). WrittenOf s n (movesIn ws' (p .moves)) ls ls' w) et R) a ea)

@@ -14,14 +14,15 @@ use Rattle.model.specs.declared.Tick.{Tick}
 use Rattle.model.specs.Types.{Core, Move}
 use Rattle.model.specs.Calls.{slicedAll}
 use Rattle.model.specs.Accounting.{switchList, takesIn}
-use Rattle.model.specs.Reading.{switchesMeant, switchAnswerMeant}
+use Rattle.model.specs.Calls.{switched}
+use Rattle.switches.specs.Entries.{ListFor}
 use Rattle.queue.specs.Words.{movesIn}
 use Rattle.queue.proofs.Frames.{no-longer-same}
 use Rattle.phases.specs.Cores.{passOf}
 use Rattle.rings.specs.Ring.{RingOK}
 use Rattle.state.specs.declared.Sched.{Sched}
 use Rattle.state.specs.Memory.{memory}
-use Rattle.state.specs.State.{firsts, coreFrom, statesOf, logWords, Valid}
+use Rattle.state.specs.State.{firsts, coreFrom, packed, statesOf, logWords, Valid}
 use Rattle.state.proofs.Firsts.{firsts-same}
 use Rattle.quiet.specs.Quiet.{isQuiet, slicedBelow, stateAt, Roomy}
 use Rattle.quiet.proofs.Resting.{still, ticked}
@@ -63,9 +64,10 @@ module _ (s : Sched) (h : isQuiet s ≡ true) (p : Planned) (st : (j : ℕ) → 
 
   pub quiet-planned :
       p .exits ≡ s .exits → p .blocks ≡ s .blocks → p .yields ≡ s .yields → p .progressed ≡ s .progressed → p .queued ≡ s .queued → p .moves ≡ 0
-      → length (s .exits) ≡ 8 → length (s .blocks) ≡ 8 → length (s .yields) ≡ 8 → length (s .progressed) ≡ 8 → (qs ps ws : List ℕ) → PlannedOf s qs qs ps ws ws p
+      → length (s .exits) ≡ 8 → length (s .blocks) ≡ 8 → length (s .yields) ≡ 8 → length (s .progressed) ≡ 8
+      → (s .states ≡ packed (statesOf (s .states)) → p .states ≡ packed (statesOf (p .states))) → (qs ps ws : List ℕ) → PlannedOf s qs qs ps ws ws p
   unfolding passOf
-  quiet-planned ex bl yi pr qu mo le lb ly lp qs ps ws =
+  quiet-planned ex bl yi pr qu mo le lb ly lp wo qs ps ws =
       record {
         decided =
             rw (ex, bl, yi, pr, qu, mo, no-moves ws)
@@ -80,16 +82,17 @@ module _ (s : Sched) (h : isQuiet s ≡ true) (p : Planned) (st : (j : ℕ) → 
         blocks = rw bl lb;
         yields = rw yi ly;
         progressed = rw pr lp;
+        words = wo;
       }
 
 ---- the log
 
 pub nothing-written :
-    (s : Sched) (ws : List ℕ) (w : Written) → w .log ≡ s .log → w .takes ≡ 0 → switchesMeant (w .switches .entries) (w .switches .count) ≡ switchList [] (movesIn ws 0)
+    (s : Sched) (ws : List ℕ) (w : Written) → w .log ≡ s .log → w .takes ≡ 0 → ListFor (switched (switchList [] (movesIn ws 0))) (w .switches)
     → (now : ℕ) (ls : List ℕ) → RingOK (logWords (s .capacities .events) ls) (s .log) → WrittenOf s now [] ls ls w
 unfolding movedLog takesIn
 nothing-written s ws w el et es now ls ok =
-    record { ok = rw el ok; events = rw el; after = refl; long = refl; takes = et; list = es ∙ ap (switchList []) (no-moves ws) }
+    record { ok = rw el ok; events = rw el; after = refl; long = refl; takes = et; list = subst (λ (ms : List Move). ListFor (switched (switchList [] ms)) (w .switches)) (no-moves ws) es }
 
 ---- the tick end
 
@@ -100,7 +103,7 @@ pub quiet-pending :
     (s : Sched) (t : Tick) (c : Charged) (p : Planned) (w : Written) (s' : Sched) → s' ≡ tickedSched s t c p w → t .0 ≡ s .now .0 + 1 → p .moves ≡ 0
     → ((qs ps ws : List ℕ) → PlannedOf s qs qs ps ws ws p) → ((now : ℕ) (ls : List ℕ) → RingOK (logWords (s .capacities .events) ls) (s .log) → WrittenOf s now [] ls ls w)
     → (a : CallAnswer) (ts : List ThreadInfo) (qs ps ls ws ws' : List ℕ) → Valid s (memory ts qs ps ls ws) → tickRefusal s ≡ none → ChargedOf s ws ws' c → a ≡ CallCases.Taken
-    → TickPending (switchAnswerMeant a (w .switches .entries) (w .switches .count)) s s' (p .moves) ts qs qs ps ls ls ws ws'
+    → TickPending a (w .switches) s s' (p .moves) ts qs qs ps ls ls ws ws'
 quiet-pending s t c p w s' es et mo P R a ts qs ps ls ws ws' v h C e =
     let none-left : [] ≡ movesIn ws' (p .moves) = rw mo (sym (no-moves ws')) in
     pending-at s ts qs ps ls ws v h t c p w s' qs ls ws' ws' es et C (P qs ps ws') (subst (λ (ms : List Move). WrittenOf s (t .0) ms ls ls w) none-left (R (t .0) ls (v .rings .events))) a e

@@ -11,7 +11,6 @@ use lib.Seq.{length-take-le}
 use Rattle.settings.specs.declared.Refusal.{Refusal}
 use Rattle.settings.specs.Reading.{refusalNumber}
 use Rattle.model.specs.Invariants.{All, ThreadIn, CoreStateIn}
-use Rattle.model.specs.declared.SwitchWords.{SwitchWords}
 use Rattle.model.specs.declared.CallAnswer.{CallAnswer}
 use Rattle.model.specs.declared.CallAnswer.the-variants as CallCases
 use Rattle.model.specs.declared.CoreState.the-variants as CoreStateCases
@@ -21,11 +20,13 @@ use Rattle.model.specs.Types.{Core, Move, Event, Segment, CoreTicks, SwitchEntr
 use Rattle.model.specs.Phases.{Rules, Pass, decide}
 use Rattle.model.specs.Accounting.{chargeThreads, charge, applyMoves, switchList, takesIn}
 use Rattle.model.specs.Calls.{Answer, refused, switched, rules, priorityOf, refusal, accept, check, charged, tick, limitNow, limitSwitches}
-use Rattle.model.specs.Reading.{coreStateMeant, threadMeant, switchesMeant, switchAnswerMeant}
-use Rattle.model.proofs.Invariants.{check-none}
-use Rattle.model.proofs.Placement.{check-rest}
+use Rattle.model.specs.Reading.{coreStateMeant, threadMeant}
+use Rattle.model.proofs.Refusals.{check-none, check-rest}
 use Rattle.model.proofs.Bounded.{all-at, charged-in, applied-ticks, applied-switches, switches-figure}
 use Rattle.queue.specs.Words.{movesIn}
+use Rattle.switches.specs.declared.SwitchList.{SwitchList}
+use Rattle.switches.specs.Entries.{answerWith, ListFor}
+use Rattle.switches.proofs.Words.{list-says, list-taken, list-refused}
 use Rattle.turns.specs.Turns.{rulesOf}
 use Rattle.phases.specs.Cores.{passOf, observed}
 use Rattle.charges.specs.Charging.{coresMeant, Chargeable}
@@ -42,6 +43,7 @@ use Rattle.accounts.proofs.Figures.{firsts-all, firsts-same, ticks-room, meant-
 use Rattle.rings.specs.Timeline.{segmentsIn}
 use Rattle.checks.specs.Check.{checkMeant, tickRefusal}
 use Rattle.checks.proofs.Refusals.{tick-refusal}
+use Rattle.tick_plan.specs.DoneWith.{DoneWith}
 use Rattle.tick_plan.specs.declared.Charged.{Charged}
 use Rattle.tick_plan.specs.declared.Planned.{Planned}
 use Rattle.tick_plan.specs.declared.Written.{Written}
@@ -103,15 +105,16 @@ module _ (s : Sched) (ts : List ThreadInfo) (qs ps ls ws : List ℕ) (v : Valid 
 
   ---- refused: no record is charged, and there are no moves
 
-  pub pending-refused : (a : CallAnswer) (x : Refusal) (entries : List SwitchWords) (count : ℕ) → a ≡ CallCases.Refused x → checkMeant a ≡ tickRefusal s
-      → TickPending (switchAnswerMeant a entries count) s s 0 ts qs qs ps ls ls ws ws
-  pending-refused a x entries count e h =
+  pub pending-refused : (a : CallAnswer) (x : Refusal) (l : SwitchList) (zs : List ℕ) → ListFor (switched (switchList [] (movesIn zs 0))) l → a ≡ CallCases.Refused x → checkMeant a ≡ tickRefusal s
+      → TickPending a l s s 0 ts qs qs ps ls ls ws ws
+  pending-refused a x l zs none-listed e h =
       record {
         fits = λ ts₁ f. record { within = omega arith; known = λ k l. absurd (omega arith); room = λ k l. absurd (omega arith) };
         done = λ ts₁ ts' f g.
             let same : ts' ≡ ts = g 0 (λ k l. absurd (omega arith)) .rest ∙ uncharged ts₁ f in
-            subst (λ (l : List ThreadInfo). Done tick (switchAnswerMeant a entries count) s s (memory ts qs ps ls ws) (memory l qs ps ls ws)) (sym same)
-            (subst (λ (b : Answer). Done tick b s s (memory ts qs ps ls ws) (memory ts qs ps ls ws)) (sym (ap (λ (b : CallAnswer). switchAnswerMeant b entries count) e)) (done-refused tick s ts qs ps ls ws v (refusalNumber x) (tick-refusal s ts qs ls ws ∙ number)));
+            subst (λ (ys : List ThreadInfo). DoneWith tick (answerWith a l) l s s (memory ts qs ps ls ws) (memory ys qs ps ls ws)) (sym same)
+            (subst (λ (b : CallAnswer). DoneWith tick (answerWith b l) l s s (memory ts qs ps ls ws) (memory ts qs ps ls ws)) (sym e)
+            (record { done = done-refused tick s ts qs ps ls ws v (refusalNumber x) (tick-refusal s ts qs ls ws ∙ number); list = list-refused zs l none-listed (refusalNumber x) }));
       }
     where
       number : tickRefusal s ≡ some (refusalNumber x)
@@ -303,16 +306,18 @@ module _ (s : Sched) (ts : List ThreadInfo) (qs ps ls ws : List ℕ) (v : Valid 
                 prios = refl;
                 log = R .after;
                 lanes = behind-more 80 (s .cores * (2 * s .capacities .segments)) ws₁ ws' (P .behind) ∙ C .lanes .after;
+                ticks = C .ticks .rest;
+                places = C .lanes .rest;
               }
 
-          pub tick-done : (a : CallAnswer) → a ≡ CallCases.Taken → Done tick (switchAnswerMeant a (w .switches .entries) (w .switches .count)) s s' (memory ts qs ps ls ws) (memory ts' qs' ps ls' ws')
+          pub tick-done : (a : CallAnswer) → a ≡ CallCases.Taken → Done tick (answerWith a (w .switches)) s s' (memory ts qs ps ls ws) (memory ts' qs' ps ls' ws')
           unfolding accept passOf meantAt threadsIn
           tick-done a e =
-              let is : switchAnswerMeant a (w .switches .entries) (w .switches .count) ≡ switched (switchesMeant (w .switches .entries) (w .switches .count)) = ap (λ (b : CallAnswer). switchAnswerMeant b (w .switches .entries) (w .switches .count)) e in
+              let is : answerWith a (w .switches) ≡ answerWith CallCases.Taken (w .switches) = ap (λ (b : CallAnswer). answerWith b (w .switches)) e in
               done-taken tick s ts qs ps ls ws v _ s' ts' qs' ps ls' ws' (tick-refusal s ts qs ls ws ∙ h) state-same
-              (is ∙ ap switched (R .list) ∙ ap (λ (x : Pass). switched (switchList [] (x .moves))) pass)
+              (is ∙ ap switched (list-says _ _ (R .list)) ∙ ap (λ (x : Pass). switched (switchList [] (x .moves))) pass)
               (λ n z. let y : _≡_ {A = ℕ} 0 1 = cc in omega arith)
-              sizes rings marks (C .eightTicks) priorities-kept frame
+              sizes rings marks (P .words (v .words)) (C .eightTicks) priorities-kept frame
 
-      pub tick-pending : (a : CallAnswer) → a ≡ CallCases.Taken → TickPending (switchAnswerMeant a (w .switches .entries) (w .switches .count)) s s' (p .moves) ts qs qs' ps ls ls' ws ws'
-      tick-pending a e = record { fits = λ ts₁ f. moves-fit ts₁ f; done = λ ts₁ ts' f g. tick-done ts₁ f ts' g a e }
+      pub tick-pending : (a : CallAnswer) → a ≡ CallCases.Taken → TickPending a (w .switches) s s' (p .moves) ts qs qs' ps ls ls' ws ws'
+      tick-pending a e = record { fits = λ ts₁ f. moves-fit ts₁ f; done = λ ts₁ ts' f g. record { done = tick-done ts₁ f ts' g a e; list = list-taken _ _ (R .list) a e } }

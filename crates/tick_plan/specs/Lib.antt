@@ -1,1 +1,2 @@
+pub mod DoneWith
 pub mod Plan

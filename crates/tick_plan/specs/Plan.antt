@@ -10,11 +10,14 @@ use Rattle.model.specs.declared.Tick.{Tick}
 use Rattle.model.specs.Types.{Move}
 use Rattle.model.specs.Phases.{decide}
 use Rattle.model.specs.Accounting.{chargeThreads, switchList, takesIn}
-use Rattle.model.specs.Calls.{Answer, tick}
-use Rattle.model.specs.Reading.{coreStateMeant, switchesMeant}
+use Rattle.model.specs.declared.CallAnswer.{CallAnswer}
+use Rattle.model.specs.Calls.{tick, switched}
+use Rattle.model.specs.Reading.{coreStateMeant}
 use Rattle.queue.specs.Words.{movesIn, NoLonger}
 use Rattle.turns.specs.Turns.{rulesOf, Short}
 use Rattle.phases.specs.Cores.{observed}
+use Rattle.switches.specs.declared.SwitchList.{SwitchList}
+use Rattle.switches.specs.Entries.{answerWith, ListFor}
 use Rattle.rings.specs.declared.RingPos.{RingPos}
 use Rattle.rings.specs.Ring.{RingOK}
 use Rattle.rings.specs.Events.{eventsIn}
@@ -24,11 +27,11 @@ use Rattle.record_moves.specs.Moves.{movedThreads}
 use Rattle.threads.specs.Slice.{threadsIn, Front, tidAt, MovesFit}
 use Rattle.state.specs.declared.Sched.{Sched}
 use Rattle.state.specs.Memory.{memory}
-use Rattle.state.specs.State.{firsts, coreFrom, statesOf, noTicks, noPos, moveRoom, laneStart, laneWords, logWords}
-use Rattle.state.specs.Done.{Done}
+use Rattle.state.specs.State.{firsts, coreFrom, packed, statesOf, noTicks, noPos, moveRoom, laneStart, laneWords, logWords}
 use Rattle.accounts.specs.Charging.{TicksCharged, LanesCharged}
 use Rattle.accounts.specs.Log.{movedLog}
 use Rattle.checks.specs.Check.{tickRefusal}
+use Rattle.tick_plan.specs.DoneWith.{DoneWith}
 use Rattle.tick_plan.specs.declared.Charged.{Charged}
 use Rattle.tick_plan.specs.declared.Planned.{Planned}
 use Rattle.tick_plan.specs.declared.Written.{Written}
@@ -51,9 +54,9 @@ abbrev pub MovedRecords : (now : ℕ) (ws : List ℕ) (count : ℕ) (ts₁ ts' :
 MovedRecords now ws count ts₁ ts' = (n : ℕ) → ((k : ℕ) → k < count → tidAt ws k < n) → Front n (movedThreads now (movesIn ws count) (threadsIn ts₁ n)) ts₁ ts'
 
 -- a tick end that is done once the records are charged and the moves applied to them
-pub record TickPending (a : Answer) (s s' : Sched) (count : ℕ) (ts : List ThreadInfo) (qs qs' ps ls ls' ws ws' : List ℕ) : Type 0 where
+pub record TickPending (a : CallAnswer) (l : SwitchList) (s s' : Sched) (count : ℕ) (ts : List ThreadInfo) (qs qs' ps ls ls' ws ws' : List ℕ) : Type 0 where
   pub fits : (ts₁ : List ThreadInfo) → ChargedRecords s ts ts₁ → MovesFit ts₁ ws' count
-  pub done : (ts₁ ts' : List ThreadInfo) → ChargedRecords s ts ts₁ → MovedRecords (s .now .0 + 1) ws' count ts₁ ts' → Done tick a s s' (memory ts qs ps ls ws) (memory ts' qs' ps ls' ws')
+  pub done : (ts₁ ts' : List ThreadInfo) → ChargedRecords s ts ts₁ → MovedRecords (s .now .0 + 1) ws' count ts₁ ts' → DoneWith tick (answerWith a l) l s s' (memory ts qs ps ls ws) (memory ts' qs' ps ls' ws')
 
 ---- charging
 
@@ -99,6 +102,7 @@ pub record PlannedOf (s : Sched) (qs qs' ps ws ws' : List ℕ) (p : Planned) : T
   pub blocks : length (p .blocks) ≡ 8
   pub yields : length (p .yields) ≡ 8
   pub progressed : length (p .progressed) ≡ 8
+  pub words : s .states ≡ packed (statesOf (s .states)) → p .states ≡ packed (statesOf (p .states))
 
 ---- writing
 
@@ -115,7 +119,7 @@ pub record WrittenAt (capacity : ℕ) (pos : RingPos) (now : ℕ) (ms : List Mov
   pub after : drop (2 * capacity) ls' ≡ drop (2 * capacity) ls
   pub long : length ls' ≡ length ls
   pub takes : w .takes ≡ takesIn ms
-  pub list : switchesMeant (w .switches .entries) (w .switches .count) ≡ switchList [] ms
+  pub list : ListFor (switched (switchList [] ms)) (w .switches)
 
 -- the same of a state's log
 abbrev pub WriteFits : Sched → (ls ws : List ℕ) (count now : ℕ) → Type 0

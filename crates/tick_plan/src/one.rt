@@ -17,7 +17,7 @@ ghost use lib.Dec.{eqb};
 ghost use lib.ListN.{length, drop};
 ghost use Rattle.settings.specs.Reading.{policyMeant};
 ghost use Rattle.model.specs.Types.{Priority};
-ghost use Rattle.state.specs.State.{statesOf};
+ghost use Rattle.state.specs.State.{packed, statesOf};
 ghost use Rattle.quiet.specs.Quiet.{isPriority};
 ghost use Rattle.tick_plan.specs.Plan.{ChargeFits, ChargedOf, PlanFits, PlannedOf};
 
@@ -74,6 +74,7 @@ fn planned_one(
     ensures states { λ r. ⌜ statesOf (r .states) ≡ next ∷ drop 1 (statesOf words) ⌝ }
     ensures marks { λ r. ⌜ (r .exits ≡ exits) × (r .blocks ≡ blocks) × (r .yields ≡ yields) × (r .progressed ≡ progressed) × (r .queued ≡ queued) × (r .moves ≡ moves) ⌝ }
     ensures eight { λ r. ⌜ (length (r .exits) ≡ 8) × (length (r .blocks) ≡ 8) × (length (r .yields) ≡ 8) × (length (r .progressed) ≡ 8) ⌝ }
+    ensures words { λ r. ⌜ (words ≡ packed (statesOf words) → r .states ≡ packed (statesOf (r .states))) ⌝ }
 {
     let mut states = words;
     let first = words_of(next);

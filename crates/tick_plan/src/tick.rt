@@ -31,11 +31,10 @@ ghost use mathlib.Core.Option.{none};
 ghost use Prim.Native.Nat.{ℕ, _+_, _<_, _≤_, _^_};
 ghost use lib.ListN.{length, getD};
 ghost use Rattle.model.specs.declared.ThreadInfo.{ThreadInfo};
-ghost use Rattle.model.specs.Reading.{switchAnswerMeant};
 ghost use Rattle.model.specs.declared.CallAnswer.the-variants as CallCases;
 ghost use Rattle.queue.specs.Words.{movesIn};
 ghost use Rattle.state.specs.Memory.{memory};
-ghost use Rattle.state.specs.State.{statesOf, noTicks, noPos, laneStart, laneWords, logWords, Valid};
+ghost use Rattle.state.specs.State.{packed, statesOf, noTicks, noPos, laneStart, laneWords, logWords, Valid};
 ghost use Rattle.rings.specs.Ring.{RingOK};
 ghost use Rattle.quiet.specs.Quiet.{isQuiet, Roomy};
 ghost use Rattle.ticks.specs.Room.{TicksRoom};
@@ -152,8 +151,10 @@ pub fn planned(
     moves: usize,
 ) -> Planned
     ensures states { λ r. ⌜ statesOf (r .states) ≡ next ⌝ }
-    ensures marks { λ r. ⌜ (r .exits ≡ exits) × (r .blocks ≡ blocks) × (r .yields ≡ yields) × (r .progressed ≡ progressed) × (r .queued ≡ queued) × (r .moves ≡ moves) ⌝ }
+    ensures marks { λ r. ⌜ (r .exits ≡ exits) × (r .blocks ≡ blocks) × (r .yields ≡ yields) × (r .progressed ≡ progressed)
+        × (r .queued ≡ queued) × (r .moves ≡ moves) ⌝ }
     ensures eight { λ r. ⌜ (length (r .exits) ≡ 8) × (length (r .blocks) ≡ 8) × (length (r .yields) ≡ 8) × (length (r .progressed) ≡ 8) ⌝ }
+    ensures words { λ r. ⌜ r .states ≡ packed (statesOf (r .states)) ⌝ }
 {
     let states = pack(next);
     Planned {
@@ -320,7 +321,7 @@ fn tick_quiet(s: Sched, answer: CallAnswer, charged: Charged, lanes: &[u64]) -> 
     ensures answer { λ r. ⌜ r .answer ≡ answer ⌝ }
     ensures pending { λ r. ⌜ ((ts : List ThreadInfo) (qs ps ls ws ws' : List ℕ) → Valid s (memory ts qs ps ls ws) → tickRefusal s ≡ none
         → ChargedOf s ws ws' charged → answer ≡ CallCases.Taken
-        → TickPending (switchAnswerMeant (r .answer) (r .switches .entries) (r .switches .count)) s (r .sched) (r .moves) ts qs qs ps ls ls ws ws') ⌝ }
+        → TickPending (r .answer) (r .switches) s (r .sched) (r .moves) ts qs qs ps ls ls ws ws') ⌝ }
 {
     let planned = plan_quiet(s);
     let tick = next_tick(s);
@@ -348,7 +349,8 @@ fn tick_taken(
     ensures answer { λ r. ⌜ r .answer ≡ answer ⌝ }
     ensures pending { λ r. ⌜ ((ts : List ThreadInfo) → Valid s
         (memory ts (now (queue .entry)) (now (prios .entry)) (now (log .entry)) (now (lanes .entry))) → answer ≡ CallCases.Taken
-        → TickPending (switchAnswerMeant (r .answer) (r .switches .entries) (r .switches .count)) s (r .sched) (r .moves) ts (now (queue .entry)) (now (queue .exit)) (now (prios .entry)) (now (log .entry)) (now (log .exit)) (now (lanes .entry)) (now (lanes .exit))) ⌝ }
+        → TickPending (r .answer) (r .switches) s (r .sched) (r .moves) ts
+        (now (queue .entry)) (now (queue .exit)) (now (prios .entry)) (now (log .entry)) (now (log .exit)) (now (lanes .entry)) (now (lanes .exit))) ⌝ }
 {
     let charged = charge_tick(s, lanes);
     if is_quiet(s) {
@@ -379,7 +381,8 @@ pub fn tick_decided(
 ) -> Decided
     requires { ⌜ ((ts : List ThreadInfo) × Valid s (memory ts (now queue) (now prios) (now log) (now lanes))) ⌝ }
     ensures { λ r. ⌜ ((ts : List ThreadInfo) → Valid s (memory ts (now (queue .entry)) (now (prios .entry)) (now (log .entry)) (now (lanes .entry)))
-        → TickPending (switchAnswerMeant (r .answer) (r .switches .entries) (r .switches .count)) s (r .sched) (r .moves) ts (now (queue .entry)) (now (queue .exit)) (now (prios .entry)) (now (log .entry)) (now (log .exit)) (now (lanes .entry)) (now (lanes .exit))) ⌝ }
+        → TickPending (r .answer) (r .switches) s (r .sched) (r .moves) ts
+        (now (queue .entry)) (now (queue .exit)) (now (prios .entry)) (now (log .entry)) (now (log .exit)) (now (lanes .entry)) (now (lanes .exit))) ⌝ }
 {
     let answer = check_tick(s);
     match answer {

@@ -35,7 +35,7 @@ same-length : tie.Need-same-length
 same-length c = search needs
 
 returns : tie.Need-returns
-returns c = closed-of (c .before .before .before .before .before .before .before .before .before .before .args .s) _ (c .before .before .before .before .core-states .ensures) _ _ (c .before .before .before .before .before .before .before .charge .result) _ _ (c .before .next-tick .result) _ (c .before .before .before .before .before .before .before .charge .ensures) (c .before .before .before .phase1 .ensures) (c .before .before .pack .ensures) (c .before .next-tick .ensures) (c .closed-sched .ensures)
+returns c = closed-of (c .before .before .before .before .before .before .before .before .before .before .args .s) _ (c .before .before .before .before .core-states .ensures) _ _ (c .before .before .before .before .before .before .before .charge .result) _ _ (c .before .next-tick .result) _ (c .before .before .before .before .before .before .before .charge .ensures) (c .before .before .before .phase1 .ensures) (c .before .before .pack .ensures .0) (c .before .before .pack .ensures .1) (c .before .next-tick .ensures) (c .closed-sched .ensures)
 
 pub closed-spec : {M : Type 1} → statement M
 closed-spec =

@@ -6,7 +6,7 @@ use mathlib.Core.Bool.{false}
 use lib.ListN.{take, getD}
 use denote.Ref.{now}
 use Rattle.settings.specs.Reading.{policyMeant}
-use Rattle.model.proofs.Invariants.{phase6-rests}
+use Rattle.model.proofs.PhaseLaws.{phase6-rests}
 use Rattle.queue.specs.Words.{movesIn}
 use Rattle.queue.proofs.Frames.{appended-both, no-longer-both}
 use Rattle.turns.specs.Turns.{rulesOf}

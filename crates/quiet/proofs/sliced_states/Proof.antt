@@ -1,5 +1,5 @@
 use Rattle.state.specs.declared.Eight.{Eight}
-use mathlib.Core.Path.{_≡_, refl}
+use mathlib.Core.Path.{_≡_, refl, ap}
 use Rattle.quiet.proofs.Cores.{growing, states-one, states-sliced, seven}
 use Rattle.quiet.specs.Quiet.{slicedBelow, stateAt}
 use Rattle.quiet.proofs.sliced_states.Statement.{statement}
@@ -10,8 +10,10 @@ sliced-words-requires c κs = growing (c .before .args .s) (c .before .pre .1) (
 
 returns : tie.Need-returns
 returns c =
-    let s = c .before .before .before .args .s in
-    states-one (s .states) (c .before .sliced-words .result) (s .cores) (c .if1 .taken) (c .before .sliced-words .ensures)
+    let s = c .before .before .before .args .s in (
+      states-one (s .states) (c .before .sliced-words .result) (s .cores) (c .if1 .taken) (c .before .sliced-words .ensures .0),
+      λ h. λ i. record { c0 = c .before .sliced-words .ensures .1 (ap (λ (e : Eight). e .c0) h) i; c1 = ap (λ (e : Eight). e .c1) h i; c2 = ap (λ (e : Eight). e .c2) h i; c3 = ap (λ (e : Eight). e .c3) h i; c4 = ap (λ (e : Eight). e .c4) h i; c5 = ap (λ (e : Eight). e .c5) h i; c6 = ap (λ (e : Eight). e .c6) h i; c7 = ap (λ (e : Eight). e .c7) h i },
+    )
 
 sliced-words-requires-2 : tie.Need-sliced-words-requires-2
 sliced-words-requires-2 c κs = growing (c .before .before .before .args .s) (c .before .before .before .pre .1) (c .before .before .before .pre .2) (c .before .before .before .args .s .states .c1) 1 refl
@@ -37,8 +39,10 @@ sliced-words-requires-8 c κs = growing (c .before .before .before .before .befo
 returns-2 : tie.Need-returns-2
 returns-2 c =
     let s = c .before .before .before .before .before .before .before .before .before .before .args .s in
-    let r : Eight = record { c0 = c .before .before .before .before .before .before .before .before .sliced-words .result; c1 = c .before .before .before .before .before .before .sliced-words2 .result; c2 = c .before .before .before .before .before .sliced-words3 .result; c3 = c .before .before .before .before .sliced-words4 .result; c4 = c .before .before .before .sliced-words5 .result; c5 = c .before .before .sliced-words6 .result; c6 = c .before .sliced-words7 .result; c7 = c .sliced-words8 .result } in
-    states-sliced (s .states) r (s .cores) (c .before .before .before .before .before .before .before .before .before .before .pre .0) (seven (λ j. stateAt r j ≡ slicedBelow (s .cores) j (stateAt (s .states) j)) (c .before .before .before .before .before .before .before .before .sliced-words .ensures) (c .before .before .before .before .before .before .sliced-words2 .ensures) (c .before .before .before .before .before .sliced-words3 .ensures) (c .before .before .before .before .sliced-words4 .ensures) (c .before .before .before .sliced-words5 .ensures) (c .before .before .sliced-words6 .ensures) (c .before .sliced-words7 .ensures)) (c .sliced-words8 .ensures)
+    let r : Eight = record { c0 = c .before .before .before .before .before .before .before .before .sliced-words .result; c1 = c .before .before .before .before .before .before .sliced-words2 .result; c2 = c .before .before .before .before .before .sliced-words3 .result; c3 = c .before .before .before .before .sliced-words4 .result; c4 = c .before .before .before .sliced-words5 .result; c5 = c .before .before .sliced-words6 .result; c6 = c .before .sliced-words7 .result; c7 = c .sliced-words8 .result } in (
+      states-sliced (s .states) r (s .cores) (c .before .before .before .before .before .before .before .before .before .before .pre .0) (seven (λ j. stateAt r j ≡ slicedBelow (s .cores) j (stateAt (s .states) j)) (c .before .before .before .before .before .before .before .before .sliced-words .ensures .0) (c .before .before .before .before .before .before .sliced-words2 .ensures .0) (c .before .before .before .before .before .sliced-words3 .ensures .0) (c .before .before .before .before .sliced-words4 .ensures .0) (c .before .before .before .sliced-words5 .ensures .0) (c .before .before .sliced-words6 .ensures .0) (c .before .sliced-words7 .ensures .0)) (c .sliced-words8 .ensures .0),
+      λ h. λ i. record { c0 = c .before .before .before .before .before .before .before .before .sliced-words .ensures .1 (ap (λ (e : Eight). e .c0) h) i; c1 = c .before .before .before .before .before .before .sliced-words2 .ensures .1 (ap (λ (e : Eight). e .c1) h) i; c2 = c .before .before .before .before .before .sliced-words3 .ensures .1 (ap (λ (e : Eight). e .c2) h) i; c3 = c .before .before .before .before .sliced-words4 .ensures .1 (ap (λ (e : Eight). e .c3) h) i; c4 = c .before .before .before .sliced-words5 .ensures .1 (ap (λ (e : Eight). e .c4) h) i; c5 = c .before .before .sliced-words6 .ensures .1 (ap (λ (e : Eight). e .c5) h) i; c6 = c .before .sliced-words7 .ensures .1 (ap (λ (e : Eight). e .c6) h) i; c7 = c .sliced-words8 .ensures .1 (ap (λ (e : Eight). e .c7) h) i },
+    )
 
 pub sliced-states-spec : {M : Type 1} → statement M
 sliced-states-spec =

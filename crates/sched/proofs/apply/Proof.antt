@@ -27,7 +27,10 @@ use Rattle.model.specs.Calls as Calls
 use Rattle.state.specs.declared.Sched.{Sched}
 use Rattle.state.specs.Memory.{memory}
 use Rattle.state.specs.State.{Valid}
+use Rattle.state.specs.Asked.{Askable, nothing}
 use Rattle.state.specs.Done.{Done}
+use Rattle.switches.specs.declared.SwitchList.{SwitchList}
+use Rattle.tick_plan.specs.DoneWith.{DoneWith}
 use Rattle.switches.specs.Entries.{noSwitches}
 use Rattle.sched_marks.specs.declared.Answered.{Answered}
 use Rattle.sched.specs.declared.Applied.{Applied}
@@ -89,7 +92,7 @@ use Rattle.sched_exit.proofs.At.{exit-at}
 use Rattle.sched_force.proofs.At.{force-switch-at}
 use Rattle.sched_tick.proofs.At.{end-tick-at}
 use Rattle.sched_close.proofs.At.{close-at}
-use Rattle.sched.proofs.Converting.{taken-meant, spawned-meant, joined-meant, switched-meant}
+use Rattle.sched.proofs.Converting.{taken-meant, spawned-meant, joined-meant, switched-meant, taken-list, spawned-list, joined-list}
 use Rattle.sched.proofs.Types.{call, applied}
 use Rattle.sched.proofs.apply.Key.{name as #sched·apply}
 use Rattle.sched.proofs.apply as f
@@ -101,8 +104,9 @@ abbrev Unlent : Calls.Call → Sched → Answered → Type 0
 Unlent c st r = (ts : List ThreadInfo) (qs ps ls ws : List ℕ) → Valid st (memory ts qs ps ls ws) → Done c (callAnswerMeant (r .answer)) st (r .sched) (memory ts qs ps ls ws) (memory ts qs ps ls ws)
 
 -- an answer that is converted says the same
-said : (D : Calls.Answer → Sched → Type 0) (y z : Applied) → y ≡ z → (a : Calls.Answer) → a ≡ outcomeMeant (z .outcome) (z .switches) → D a (z .sched) → D (outcomeMeant (y .outcome) (y .switches)) (y .sched)
-said D y z e a h d = subst (λ (x : Applied). D (outcomeMeant (x .outcome) (x .switches)) (x .sched)) (sym e) (subst (λ (b : Calls.Answer). D b (z .sched)) h d)
+said : (D : Calls.Answer → SwitchList → Sched → Type 0) (y z : Applied) → y ≡ z → (a : Calls.Answer) → a ≡ outcomeMeant (z .outcome) (z .switches) → D a (z .switches) (z .sched)
+    → D (outcomeMeant (y .outcome) (y .switches)) (y .switches) (y .sched)
+said D y z e a h d = subst (λ (x : Applied). D (outcomeMeant (x .outcome) (x .switches)) (x .switches) (x .sched)) (sym e) (subst (λ (b : Calls.Answer). D b (z .switches) (z .sched)) h d)
 
 -- the five slices: thread records, queue, priorities, log, timelines
 abbrev Slices : Type 0
@@ -150,8 +154,8 @@ module _ {M : Type 1} (𝓤 : URA M) (H : Heap 𝓤) (A : Atoms 𝓤) (W : Given
     ws = m .1 .1 .1 .1 .0 .now
 
     -- the call c leaves these lists, with an answer and a state
-    abbrev LeftAs : Calls.Call → (ts' : List ThreadInfo) (qs' ps' ls' ws' : List ℕ) → Calls.Answer → Sched → Type 0
-    LeftAs c ts' qs' ps' ls' ws' a s' = Done c a st s' (memory ts qs ps ls ws) (memory ts' qs' ps' ls' ws')
+    abbrev LeftAs : Calls.Call → (ts' : List ThreadInfo) (qs' ps' ls' ws' : List ℕ) → Calls.Answer → SwitchList → Sched → Type 0
+    LeftAs c ts' qs' ps' ls' ws' a l s' = DoneWith c a l st s' (memory ts qs ps ls ws) (memory ts' qs' ps' ls' ws')
 
     -- what the code asks where it is given the call c
     abbrev Arm : Call → Type 2
@@ -169,7 +173,7 @@ module _ {M : Type 1} (𝓤 : URA M) (H : Heap 𝓤) (A : Atoms 𝓤) (W : Given
         let xs₁ = args 𝓤 H A es₁ ss₁ in
         calls-with 𝓤 H A W es₁ ss₁ fm free (applied 𝓤 H A W) (λ y _. y ≡ ofSpawn (r .x)) (λ g. met .11 ((lfts xs₁ g, shares xs₁, tt, denots 0 xs₁ g, valss 0 xs₁ g), tt)) refl tt (λ y l₁ le₁ y-is. owes (applied 𝓤 H A W .lawful .typed (y .x) _ (y .is) .0 .0) (
           finish 𝓤 H A W params (applied 𝓤 H A W) (f.clauses 𝓤 H A mem run) κs shs tt (st, ((Cases.Spawn parent pc), m)) tt are y ((l .1 .1 .1 .0, le .0), ((l .1 .1 .1 .1 .0, le .1 .0), ((l .1 .1 .1 .1 .1 .0, le .1 .1 .0), ((l .1 .1 .1 .1 .1 .1 .0, le .1 .1 .1 .0), ((ws, refl), tt)))))
-              (said (LeftAs (Calls.spawn (optionTidMeant parent) pc) (l .1 .1 .1 .0) (l .1 .1 .1 .1 .0) (l .1 .1 .1 .1 .1 .0) (l .1 .1 .1 .1 .1 .1 .0) ws) (y .x) (ofSpawn (r .x)) y-is _ (spawned-meant (r .x .answer) noSwitches) (is-done ws v)) refl,
+              (said (LeftAs (Calls.spawn (optionTidMeant parent) pc) (l .1 .1 .1 .0) (l .1 .1 .1 .1 .0) (l .1 .1 .1 .1 .1 .0) (l .1 .1 .1 .1 .1 .1 .0) ws) (y .x) (ofSpawn (r .x)) y-is _ (spawned-meant (r .x .answer) noSwitches) (record { done = (is-done ws v); list = spawned-list (r .x .answer) })) refl,
           tt,
         )))))
 
@@ -185,7 +189,7 @@ module _ {M : Type 1} (𝓤 : URA M) (H : Heap 𝓤) (A : Atoms 𝓤) (W : Given
         let xs₁ = args 𝓤 H A es₁ ss₁ in
         calls-with 𝓤 H A W es₁ ss₁ fm free (applied 𝓤 H A W) (λ y _. y ≡ ofAnswered (r .x)) (λ g. met .10 ((lfts xs₁ g, shares xs₁, tt, denots 0 xs₁ g, valss 0 xs₁ g), tt)) refl tt (λ y l₁ le₁ y-is. owes (applied 𝓤 H A W .lawful .typed (y .x) _ (y .is) .0 .0) (
           finish 𝓤 H A W params (applied 𝓤 H A W) (f.clauses 𝓤 H A mem run) κs shs tt (st, ((Cases.Exit core), m)) tt are y ((l .1 .1 .0, le .0), ((l .1 .1 .1 .0, le .1 .0), ((ps, refl), ((l .1 .1 .1 .1 .0, le .1 .1 .0), ((ws, refl), tt)))))
-              (said (LeftAs (Calls.exit (core .0)) (l .1 .1 .0) (l .1 .1 .1 .0) ps (l .1 .1 .1 .1 .0) ws) (y .x) (ofAnswered (r .x)) y-is _ (taken-meant (r .x .answer) noSwitches) (is-done ps ws v)) refl,
+              (said (LeftAs (Calls.exit (core .0)) (l .1 .1 .0) (l .1 .1 .1 .0) ps (l .1 .1 .1 .1 .0) ws) (y .x) (ofAnswered (r .x)) y-is _ (taken-meant (r .x .answer) noSwitches) (record { done = (is-done ps ws v); list = taken-list (r .x .answer) })) refl,
           tt,
         )))))
 
@@ -201,7 +205,7 @@ module _ {M : Type 1} (𝓤 : URA M) (H : Heap 𝓤) (A : Atoms 𝓤) (W : Given
         let xs₁ = args 𝓤 H A es₁ ss₁ in
         calls-with 𝓤 H A W es₁ ss₁ fm free (applied 𝓤 H A W) (λ y _. y ≡ ofJoin (r .x)) (λ g. met .12 ((lfts xs₁ g, shares xs₁, tt, denots 0 xs₁ g, valss 0 xs₁ g), tt)) refl tt (λ y l₁ le₁ y-is. owes (applied 𝓤 H A W .lawful .typed (y .x) _ (y .is) .0 .0) (
           finish 𝓤 H A W params (applied 𝓤 H A W) (f.clauses 𝓤 H A mem run) κs shs tt (st, ((Cases.Join core target), m)) tt are y ((l .1 .1 .1 .0, le .0), ((qs, refl), ((ps, refl), ((ls, refl), ((ws, refl), tt)))))
-              (said (LeftAs (Calls.join (core .0) (target .0)) (l .1 .1 .1 .0) qs ps ls ws) (y .x) (ofJoin (r .x)) y-is _ (joined-meant (r .x .answer) noSwitches) (is-done qs ps ls ws v)) refl,
+              (said (LeftAs (Calls.join (core .0) (target .0)) (l .1 .1 .1 .0) qs ps ls ws) (y .x) (ofJoin (r .x)) y-is _ (joined-meant (r .x .answer) noSwitches) (record { done = (is-done qs ps ls ws v); list = joined-list (r .x .answer) })) refl,
           tt,
         )))))
 
@@ -211,13 +215,13 @@ module _ {M : Type 1} (𝓤 : URA M) (H : Heap 𝓤) (A : Atoms 𝓤) (W : Given
         let o = EL.owed Q.the-type Q′.the-laws (Cases.Retired core) _ (are .1 .0) in
         let ss : List (Pass 𝓤 H A) = value (known (sched 𝓤 H A W) st (are .0)) ∷ value (known (coreId 𝓤 H A W) core (o .0)) ∷ [] in
         let xs = args 𝓤 H A es ss in
-        owes (coreId 𝓤 H A W .lawful .typed core _ (o .0) .0 .0) (calls-with 𝓤 H A W es ss fm (asks (st .cores ≤ 8) (v .sizes .cores)) (answered 𝓤 H A W) (λ r _. Unlent (Calls.retired (core .0)) st r) (λ g. met .3 ((lfts xs g, shares xs, tt, denots 0 xs g, valss 0 xs g), tt)) refl tt (λ r l le is-done.
+        owes (coreId 𝓤 H A W .lawful .typed core _ (o .0) .0 .0) (calls-with 𝓤 H A W es ss fm (asks (Askable st nothing) (memory ts qs ps ls ws, v, tt)) (answered 𝓤 H A W) (λ r _. Unlent (Calls.retired (core .0)) st r) (λ g. met .3 ((lfts xs g, shares xs, tt, denots 0 xs g, valss 0 xs g), tt)) refl tt (λ r l le is-done.
         let es₁ = left-by xs l le es in
         let ss₁ : List (Pass 𝓤 H A) = value r ∷ [] in
         let xs₁ = args 𝓤 H A es₁ ss₁ in
         calls-with 𝓤 H A W es₁ ss₁ fm free (applied 𝓤 H A W) (λ y _. y ≡ ofAnswered (r .x)) (λ g. met .10 ((lfts xs₁ g, shares xs₁, tt, denots 0 xs₁ g, valss 0 xs₁ g), tt)) refl tt (λ y l₁ le₁ y-is. owes (applied 𝓤 H A W .lawful .typed (y .x) _ (y .is) .0 .0) (
           finish 𝓤 H A W params (applied 𝓤 H A W) (f.clauses 𝓤 H A mem run) κs shs tt (st, ((Cases.Retired core), m)) tt are y ((ts, refl), ((qs, refl), ((ps, refl), ((ls, refl), ((ws, refl), tt)))))
-              (said (LeftAs (Calls.retired (core .0)) ts qs ps ls ws) (y .x) (ofAnswered (r .x)) y-is _ (taken-meant (r .x .answer) noSwitches) (is-done ts qs ps ls ws v)) refl,
+              (said (LeftAs (Calls.retired (core .0)) ts qs ps ls ws) (y .x) (ofAnswered (r .x)) y-is _ (taken-meant (r .x .answer) noSwitches) (record { done = (is-done ts qs ps ls ws v); list = taken-list (r .x .answer) })) refl,
           tt,
         ))))
 
@@ -233,7 +237,7 @@ module _ {M : Type 1} (𝓤 : URA M) (H : Heap 𝓤) (A : Atoms 𝓤) (W : Given
         let xs₁ = args 𝓤 H A es₁ ss₁ in
         calls-with 𝓤 H A W es₁ ss₁ fm free (applied 𝓤 H A W) (λ y _. y ≡ ofAnswered (r .x)) (λ g. met .10 ((lfts xs₁ g, shares xs₁, tt, denots 0 xs₁ g, valss 0 xs₁ g), tt)) refl tt (λ y l₁ le₁ y-is. owes (applied 𝓤 H A W .lawful .typed (y .x) _ (y .is) .0 .0) (
           finish 𝓤 H A W params (applied 𝓤 H A W) (f.clauses 𝓤 H A mem run) κs shs tt (st, ((Cases.YieldNow core), m)) tt are y ((l .1 .1 .0, le .0), ((qs, refl), ((ps, refl), ((ls, refl), ((ws, refl), tt)))))
-              (said (LeftAs (Calls.yield (core .0)) (l .1 .1 .0) qs ps ls ws) (y .x) (ofAnswered (r .x)) y-is _ (taken-meant (r .x .answer) noSwitches) (is-done qs ps ls ws v)) refl,
+              (said (LeftAs (Calls.yield (core .0)) (l .1 .1 .0) qs ps ls ws) (y .x) (ofAnswered (r .x)) y-is _ (taken-meant (r .x .answer) noSwitches) (record { done = (is-done qs ps ls ws v); list = taken-list (r .x .answer) })) refl,
           tt,
         ))))
 
@@ -249,7 +253,7 @@ module _ {M : Type 1} (𝓤 : URA M) (H : Heap 𝓤) (A : Atoms 𝓤) (W : Given
         let xs₁ = args 𝓤 H A es₁ ss₁ in
         calls-with 𝓤 H A W es₁ ss₁ fm free (applied 𝓤 H A W) (λ y _. y ≡ ofAnswered (r .x)) (λ g. met .10 ((lfts xs₁ g, shares xs₁, tt, denots 0 xs₁ g, valss 0 xs₁ g), tt)) refl tt (λ y l₁ le₁ y-is. owes (applied 𝓤 H A W .lawful .typed (y .x) _ (y .is) .0 .0) (
           finish 𝓤 H A W params (applied 𝓤 H A W) (f.clauses 𝓤 H A mem run) κs shs tt (st, ((Cases.SetPriority target n), m)) tt are y ((l .1 .1 .1 .0, le .0), ((qs, refl), ((l .1 .1 .1 .1 .0, le .1 .0), ((l .1 .1 .1 .1 .1 .0, le .1 .1 .0), ((ws, refl), tt)))))
-              (said (LeftAs (Calls.priority (target .0) n) (l .1 .1 .1 .0) qs (l .1 .1 .1 .1 .0) (l .1 .1 .1 .1 .1 .0) ws) (y .x) (ofAnswered (r .x)) y-is _ (taken-meant (r .x .answer) noSwitches) (is-done qs ws v)) refl,
+              (said (LeftAs (Calls.priority (target .0) n) (l .1 .1 .1 .0) qs (l .1 .1 .1 .1 .0) (l .1 .1 .1 .1 .1 .0) ws) (y .x) (ofAnswered (r .x)) y-is _ (taken-meant (r .x .answer) noSwitches) (record { done = (is-done qs ws v); list = taken-list (r .x .answer) })) refl,
           tt,
         )))))
 
@@ -265,7 +269,7 @@ module _ {M : Type 1} (𝓤 : URA M) (H : Heap 𝓤) (A : Atoms 𝓤) (W : Given
         let xs₁ = args 𝓤 H A es₁ ss₁ in
         calls-with 𝓤 H A W es₁ ss₁ fm free (applied 𝓤 H A W) (λ y _. y ≡ ofAnswered (r .x)) (λ g. met .10 ((lfts xs₁ g, shares xs₁, tt, denots 0 xs₁ g, valss 0 xs₁ g), tt)) refl tt (λ y l₁ le₁ y-is. owes (applied 𝓤 H A W .lawful .typed (y .x) _ (y .is) .0 .0) (
           finish 𝓤 H A W params (applied 𝓤 H A W) (f.clauses 𝓤 H A mem run) κs shs tt (st, ((Cases.SetTiming quantum cost), m)) tt are y ((ts, refl), ((qs, refl), ((ps, refl), ((ls, refl), ((ws, refl), tt)))))
-              (said (LeftAs (Calls.timing quantum cost) ts qs ps ls ws) (y .x) (ofAnswered (r .x)) y-is _ (taken-meant (r .x .answer) noSwitches) (is-done ts qs ps ls ws v)) refl,
+              (said (LeftAs (Calls.timing quantum cost) ts qs ps ls ws) (y .x) (ofAnswered (r .x)) y-is _ (taken-meant (r .x .answer) noSwitches) (record { done = (is-done ts qs ps ls ws v); list = taken-list (r .x .answer) })) refl,
           tt,
         )))))
 
@@ -312,7 +316,7 @@ module _ {M : Type 1} (𝓤 : URA M) (H : Heap 𝓤) (A : Atoms 𝓤) (W : Given
         let xs₁ = args 𝓤 H A es₁ ss₁ in
         calls-with 𝓤 H A W es₁ ss₁ fm free (applied 𝓤 H A W) (λ y _. y ≡ ofAnswered (r .x)) (λ g. met .10 ((lfts xs₁ g, shares xs₁, tt, denots 0 xs₁ g, valss 0 xs₁ g), tt)) refl tt (λ y l₁ le₁ y-is. owes (applied 𝓤 H A W .lawful .typed (y .x) _ (y .is) .0 .0) (
           finish 𝓤 H A W params (applied 𝓤 H A W) (f.clauses 𝓤 H A mem run) κs shs tt (st, ((Cases.Close core), m)) tt are y ((l .1 .1 .0, le .0), ((l .1 .1 .1 .0, le .1 .0), ((ps, refl), ((l .1 .1 .1 .1 .0, le .1 .1 .0), ((l .1 .1 .1 .1 .1 .0, le .1 .1 .1 .0), tt)))))
-              (said (LeftAs (Calls.close (core .0)) (l .1 .1 .0) (l .1 .1 .1 .0) ps (l .1 .1 .1 .1 .0) (l .1 .1 .1 .1 .1 .0)) (y .x) (ofAnswered (r .x)) y-is _ (taken-meant (r .x .answer) noSwitches) (is-done ps v)) refl,
+              (said (LeftAs (Calls.close (core .0)) (l .1 .1 .0) (l .1 .1 .1 .0) ps (l .1 .1 .1 .1 .0) (l .1 .1 .1 .1 .1 .0)) (y .x) (ofAnswered (r .x)) y-is _ (taken-meant (r .x .answer) noSwitches) (record { done = (is-done ps v); list = taken-list (r .x .answer) })) refl,
           tt,
         )))))
 

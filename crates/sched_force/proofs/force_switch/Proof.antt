@@ -23,13 +23,14 @@ use denote.Triple.Table.{entered, cited}
 use Rattle.model.specs.declared.ThreadInfo.{ThreadInfo}
 use Rattle.model.specs.declared.CoreId.{CoreId}
 use Rattle.model.specs.declared.OptionTid.{OptionTid}
-use Rattle.model.specs.Reading.{optionTidMeant, switchAnswerMeant}
+use Rattle.model.specs.Reading.{optionTidMeant}
 use Rattle.state.specs.declared.Sched.{Sched}
 use Rattle.model.specs.declared.Tick.{Tick}
 use Rattle.model.specs.Calls
 use Rattle.state.specs.Memory.{memory}
 use Rattle.state.specs.State.{Valid}
-use Rattle.state.specs.Done.{Done}
+use Rattle.switches.specs.Entries.{answerWith}
+use Rattle.tick_plan.specs.DoneWith.{DoneWith}
 use Rattle.tick_plan.specs.declared.Ticked.{Ticked}
 use Rattle.tick_plan.specs.declared.Decided.{Decided}
 use Rattle.tick_plan.specs.Plan.{MovedRecords}
@@ -62,12 +63,12 @@ use Rattle.sched_force.proofs.force_switch.Code as code
 
 -- what `force_decided` says
 abbrev Pending : Sched → CoreId → OptionTid → Decided → (qs qs' ps ls ls' ws ws' : List ℕ) → Type 0
-Pending st core nm d qs qs' ps ls ls' ws ws' = (ts : List ThreadInfo) → Valid st (memory ts qs ps ls ws) → ForcePending (core .0) (optionTidMeant nm) (switchAnswerMeant (d .answer) (d .switches .entries) (d .switches .count)) st (d .sched) (d .moves) ts qs qs' ps ls ls' ws ws'
+Pending st core nm d qs qs' ps ls ls' ws ws' = (ts : List ThreadInfo) → Valid st (memory ts qs ps ls ws) → ForcePending (core .0) (optionTidMeant nm) (d .answer) (d .switches) st (d .sched) (d .moves) ts qs qs' ps ls ls' ws ws'
 
 -- the chain of what the calls say
 told : (st : Sched) (core : CoreId) (nm : OptionTid) (d : Decided) (r : Ticked) (n : ℕ) (t : Tick) (ys zs : List ThreadInfo) (qs qs' ps ls ls' ws ws' : List ℕ) → Valid st (memory ys qs ps ls ws) → Pending st core nm d qs qs' ps ls ls' ws ws'
     → n ≡ d .moves → t .0 ≡ st .now .0 → MovedRecords (t .0) ws' n ys zs → (r .sched ≡ d .sched) × (r .answer ≡ d .answer) × (r .switches ≡ d .switches)
-    → Done (Calls.force (core .0) (optionTidMeant nm)) (switchAnswerMeant (r .answer) (r .switches .entries) (r .switches .count)) st (r .sched) (memory ys qs ps ls ws) (memory zs qs' ps ls' ws')
+    → DoneWith (Calls.force (core .0) (optionTidMeant nm)) (answerWith (r .answer) (r .switches)) (r .switches) st (r .sched) (memory ys qs ps ls ws) (memory zs qs' ps ls' ws')
 told st core nm d r n t ys zs qs qs' ps ls ls' ws ws' v pending en et moved e = rw (e .0, e .1, e .2) (pending ys v .done zs (rw en at (rw et at moved)))
 
 module _ {M : Type 1} (𝓤 : URA M) (H : Heap 𝓤) (A : Atoms 𝓤) (W : Given 𝓤 H A) (mem : Memory → SProp 𝓤) (run : Routine → Fun 𝓤) where

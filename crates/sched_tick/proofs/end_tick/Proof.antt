@@ -19,12 +19,12 @@ use denote.Triple.Table.{entered, cited}
 use Rattle.model.specs.declared.ThreadInfo.{ThreadInfo}
 use Rattle.model.specs.declared.CoreState.{CoreState}
 use Rattle.model.specs.declared.Tick.{Tick}
-use Rattle.model.specs.Reading.{switchAnswerMeant}
 use Rattle.model.specs.Calls
 use Rattle.state.specs.declared.Sched.{Sched}
 use Rattle.state.specs.Memory.{memory}
 use Rattle.state.specs.State.{statesOf, Valid}
-use Rattle.state.specs.Done.{Done}
+use Rattle.switches.specs.Entries.{answerWith}
+use Rattle.tick_plan.specs.DoneWith.{DoneWith}
 use Rattle.threads.specs.Slice.{AllChargeable, MovesFit}
 use Rattle.tick_plan.specs.declared.Decided.{Decided}
 use Rattle.tick_plan.specs.declared.Ticked.{Ticked}
@@ -67,7 +67,7 @@ use Rattle.sched_tick.proofs.end_tick.Code as code
 
 -- what `tick_decided` says
 abbrev Pending : Sched → Decided → (qs qs' ps ls ls' ws ws' : List ℕ) → Type 0
-Pending st d qs qs' ps ls ls' ws ws' = (ts : List ThreadInfo) → Valid st (memory ts qs ps ls ws) → TickPending (switchAnswerMeant (d .answer) (d .switches .entries) (d .switches .count)) st (d .sched) (d .moves) ts qs qs' ps ls ls' ws ws'
+Pending st d qs qs' ps ls ls' ws ws' = (ts : List ThreadInfo) → Valid st (memory ts qs ps ls ws) → TickPending (d .answer) (d .switches) st (d .sched) (d .moves) ts qs qs' ps ls ls' ws ws'
 
 -- the chain of what the calls say
 module _ (st : Sched) (ys : List ThreadInfo) (qs ps ls ws : List ℕ) (v : Valid st (memory ys qs ps ls ws)) (n : ℕ) (cs : List CoreState) (n-is : n ≡ tickThreads st) (cs-is : cs ≡ statesOf (st .states)) where
@@ -82,7 +82,7 @@ module _ (st : Sched) (ys : List ThreadInfo) (qs ps ls ws : List ℕ) (v : Valid
     moves-fit = rw m-is (pending ys v .fits ys₁ charged-so)
 
     told : (t : Tick) → t .0 ≡ st .now .0 + 1 → (ys' : List ThreadInfo) → MovedRecords (t .0) ws' m ys₁ ys' → (r : Ticked) → (r .sched ≡ d .sched) × (r .answer ≡ d .answer) × (r .switches ≡ d .switches)
-        → Done Calls.tick (switchAnswerMeant (r .answer) (r .switches .entries) (r .switches .count)) st (r .sched) (memory ys qs ps ls ws) (memory ys' qs' ps ls' ws')
+        → DoneWith Calls.tick (answerWith (r .answer) (r .switches)) (r .switches) st (r .sched) (memory ys qs ps ls ws) (memory ys' qs' ps ls' ws')
     told t t-is ys' moved r e = rw (e .0, e .1, e .2) (pending ys v .done ys₁ ys' charged-so (rw m-is at (rw t-is at moved)))
 
 module _ {M : Type 1} (𝓤 : URA M) (H : Heap 𝓤) (A : Atoms 𝓤) (W : Given 𝓤 H A) (mem : Memory → SProp 𝓤) (run : Routine → Fun 𝓤) where

@@ -1,7 +1,8 @@
 use borrow.Author.Needs.{needs}
 use mathlib.Core.Path.{sym, _∙_}
 use Rattle.state.proofs.Whole.{whole}
-use Rattle.state.proofs.Words.{all-eight}
+use Rattle.model.specs.declared.CoreState.the-variants as CoreStateCases
+use Rattle.state.proofs.Words.{all-eight, words-in}
 use Rattle.state.proofs.pack.Statement.{statement}
 use Rattle.state.proofs.pack.Tie as tie
 
@@ -54,7 +55,19 @@ words-of-requires-8 : tie.Need-words-of-requires-8
 words-of-requires-8 c κs = search needs
 
 returns : tie.Need-returns
-returns c = all-eight _ _ _ _ _ _ _ _ _ _ _ _ _ _ _ _ (c .before .before .before .before .before .before .before .before .before .before .before .before .before .before .words-of .ensures) (c .before .before .before .before .before .before .before .before .before .before .before .before .words-of2 .ensures) (c .before .before .before .before .before .before .before .before .before .before .words-of3 .ensures) (c .before .before .before .before .before .before .before .before .words-of4 .ensures) (c .before .before .before .before .before .before .words-of5 .ensures) (c .before .before .before .before .words-of6 .ensures) (c .before .before .words-of7 .ensures) (c .words-of8 .ensures) ∙ sym (whole 8 (c .before .before .before .before .before .before .before .before .before .before .before .before .before .before .before .before .args .t1) _ (c .before .before .before .before .before .before .before .before .before .before .before .before .before .before .before .before .good .0 .1 .0 .1))
+returns c =
+    let s = c .before .before .before .before .before .before .before .before .before .before .before .before .before .before .before .before in
+    let a = s .args .t1 in
+    let same = sym (whole 8 a CoreStateCases.Idle (s .good .0 .1 .0 .1)) in
+    let e0 = c .before .before .before .before .before .before .before .before .before .before .before .before .before .before .words-of .ensures in
+    let e1 = c .before .before .before .before .before .before .before .before .before .before .before .before .words-of2 .ensures in
+    let e2 = c .before .before .before .before .before .before .before .before .before .before .words-of3 .ensures in
+    let e3 = c .before .before .before .before .before .before .before .before .words-of4 .ensures in
+    let e4 = c .before .before .before .before .before .before .words-of5 .ensures in
+    let e5 = c .before .before .before .before .words-of6 .ensures in
+    let e6 = c .before .before .words-of7 .ensures in
+    let e7 = c .words-of8 .ensures in
+    ((λ i. record { c0 = e0 i; c1 = e1 i; c2 = e2 i; c3 = e3 i; c4 = e4 i; c5 = e5 i; c6 = e6 i; c7 = e7 i }), all-eight _ _ _ _ _ _ _ _ _ _ _ _ _ _ _ _ (words-in _ _ e0) (words-in _ _ e1) (words-in _ _ e2) (words-in _ _ e3) (words-in _ _ e4) (words-in _ _ e5) (words-in _ _ e6) (words-in _ _ e7) ∙ same)
 
 pub pack-spec : {M : Type 1} → statement M
 pack-spec =

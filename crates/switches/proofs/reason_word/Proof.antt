@@ -1,5 +1,6 @@
 -- `switches::reason_word` meets its contract. Assumes nothing.
 use borrow.Author.Needs.{needs}
+use Rattle.switches.specs.Entries.{reasonNumber}
 use Rattle.switches.proofs.reason_word.Statement.{statement}
 use Rattle.switches.proofs.reason_word.Tie as tie
 
@@ -22,22 +23,28 @@ enum-told-6 : tie.Need-enum-told-6
 enum-told-6 c = search needs
 
 returns : tie.Need-returns
-returns c = λ t. rw (c .enum-told .given .1)
+unfolding reasonNumber
+returns c = rw (c .enum-told .given .1)
 
 returns-2 : tie.Need-returns-2
-returns-2 c = λ t. rw (c .enum-told2 .given .1)
+unfolding reasonNumber
+returns-2 c = rw (c .enum-told2 .given .1)
 
 returns-3 : tie.Need-returns-3
-returns-3 c = λ t. rw (c .enum-told3 .given .1)
+unfolding reasonNumber
+returns-3 c = rw (c .enum-told3 .given .1)
 
 returns-4 : tie.Need-returns-4
-returns-4 c = λ t. rw (c .enum-told4 .given .1)
+unfolding reasonNumber
+returns-4 c = rw (c .enum-told4 .given .1)
 
 returns-5 : tie.Need-returns-5
-returns-5 c = λ t. rw (c .enum-told5 .given .1)
+unfolding reasonNumber
+returns-5 c = rw (c .enum-told5 .given .1)
 
 returns-6 : tie.Need-returns-6
-returns-6 c = λ t. rw (c .enum-told6 .given .1)
+unfolding reasonNumber
+returns-6 c = rw (c .enum-told6 .given .1)
 
 pub reason-word-spec : {M : Type 1} → statement M
 reason-word-spec =

@@ -7,7 +7,7 @@ use mathlib.Core.List.{[]}
 use denote.Ref.{now}
 use Rattle.model.specs.Accounting.{switchList}
 use Rattle.queue.specs.Words.{movesIn, moveMeant}
-use Rattle.switches.proofs.Stored.{Listed, listed-none, turn-same, turn-room, turn-more}
+use Rattle.switches.proofs.Stored.{Listed, listed-none, turn-same, turn-room, turn-more, listed-is}
 use Rattle.switches.proofs.switch_list.Statement.{statement}
 use Rattle.switches.proofs.switch_list.Tie as tie
 
@@ -62,7 +62,7 @@ mul-e : tie.Need-mul-e Inv-loop μ-loop
 mul-e c = omega (arith, array-copy-out-e c)
 
 entry-after-requires : tie.Need-entry-after-requires Inv-loop μ-loop
-entry-after-requires c κs = search needs
+entry-after-requires c κs = c .before .before .before .before .before .before .loop .inv .1 .words (c .before .entry-place .result)
 
 mul-entries : tie.Need-mul-entries Inv-loop μ-loop
 mul-entries c = omega (arith, array-copy-out-e (c .before .before))
@@ -95,7 +95,7 @@ returns : tie.Need-returns Inv-loop μ-loop
 returns c =
     let l = c .before .loop in
     let e : l .k ≡ c .before .before .before .args .n = omega (arith, l .inv .0, c .loop-test .left) in
-    (l .inv .1 .meant ∙ rw e, (l .inv .1 .fits, l .inv .1 .eight))
+    rw (← e) (listed-is (l .entries) (l .places) (l .count) (switchList [] (movesIn (now (c .before .before .before .args .out)) (l .k))) (l .inv .1))
 
 pub switch-list-spec : {M : Type 1} → statement M
 switch-list-spec =

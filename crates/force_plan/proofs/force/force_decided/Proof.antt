@@ -41,7 +41,7 @@ same-length-2 c = search needs
 returns : tie.Need-returns
 returns c =
     let a = c .before .before .before .before .before .before .before .before .before .before .before .args in
-    λ ts v. pending-refused (a .s) ts (now (a .queue)) (now (a .prios)) (now (a .log)) (now (a .lanes)) (optionTidMeant (a .named)) (c .before .before .before .before .before .place .result) (a .core .0) v (c .before .before .before .before .before .place .ensures) _ _ _ _ (c .before .before .enum-told .given .1) (c .before .before .before .before .check-force .ensures)
+    λ ts v. pending-refused (a .s) ts (now (a .queue)) (now (a .prios)) (now (a .log)) (now (a .lanes)) (optionTidMeant (a .named)) (c .before .before .before .before .before .place .result) (a .core .0) v (c .before .before .before .before .before .place .ensures) _ _ _ (now (a .lanes)) (c .switch-list .ensures) (c .before .before .enum-told .given .1) (c .before .before .before .before .check-force .ensures)
 
 same-length-3 : tie.Need-same-length-3
 same-length-3 c = search needs

@@ -43,8 +43,8 @@ returns c =
     let a = c .before .before .before .before .before .before .before .before .before .before .before .before .before .before .before .before .before .before .before .before .before .before .args in
     forced (a .s) (a .core .0) (a .at) (now (a .queue)) (d .last .1 .1 .1 .1 .1 .1 .1 .1 .0) (now (a .lanes)) (d .last .1 .1 .1 .1 .1 .1 .1 .1 .1 .1 .0) (c .before .before .before .before .before .before .before .before .before .before .before .before .before .before .before .before .before .before .before .core-states .result) (d .result)
     (d .last .1 .1 .1 .1 .0) (d .last .1 .1 .1 .1 .1 .0) (d .last .1 .1 .1 .1 .1 .1 .0) (d .last .1 .1 .1 .1 .1 .1 .1 .0) (d .last .1 .1 .1 .1 .1 .1 .1 .1 .1 .0) (d .last .1 .1 .1 .1 .1 .1 .1 .1 .1 .1 .1 .0)
-    (p .result) (c .before .before .before .before .before .before .before .before .before .before .before .before .before .before .before .before .before .before .before .core-states .ensures) (p .ensures .0) (p .ensures .1 .0) (p .ensures .1 .1) (c .before .before .before .before .before .before .before .before .before .before .before .before .before .before .before .before .before .before .before .before .before .before .pre)
-    (d .kept .1 .1 .1 .1 .1 .1 .1 .1 .1 .1 .0) (d .kept .1 .1 .1 .1 .1 .1 .1 .1 .0) (d .ensures .0) (d .ensures .1 .0) (d .ensures .1 .1 .0) (d .ensures .1 .1 .1 .0) (d .ensures .1 .1 .1 .1 .0) (d .ensures .1 .1 .1 .1 .1)
+    (p .result) (c .before .before .before .before .before .before .before .before .before .before .before .before .before .before .before .before .before .before .before .core-states .ensures) (p .ensures .0) (p .ensures .1 .0) (p .ensures .1 .1 .0) (c .before .before .before .before .before .before .before .before .before .before .before .before .before .before .before .before .before .before .before .before .before .before .pre)
+    (d .kept .1 .1 .1 .1 .1 .1 .1 .1 .1 .1 .0) (d .kept .1 .1 .1 .1 .1 .1 .1 .1 .0) (d .ensures .0) (d .ensures .1 .0) (d .ensures .1 .1 .0) (d .ensures .1 .1 .1 .0) (d .ensures .1 .1 .1 .1 .0) (d .ensures .1 .1 .1 .1 .1) (p .ensures .1 .1 .1)
 
 pub plan-spec : {M : Type 1} → statement M
 plan-spec =

@@ -25,7 +25,7 @@ cast-i c = search needs
 with-mark-requires : tie.Need-with-mark-requires
 with-mark-requires c κs =
     let h = retired-place (c .before .before .before .before .before .args .s) (c .before .before .before .before .before .args .core .0) (taken-none _ _ (c .before .before .enum-told2 .given .1) (c .before .before .before .before .check-retired .ensures)) in
-    let k = c .before .before .before .before .before .pre in
+    let k = c .before .before .before .before .before .pre .1 .sizes .cores in
     omega arith
 
 returns : tie.Need-returns

@@ -45,8 +45,8 @@ returns c =
     let p = c .planned-one in
     planned-one (a .s) (now (a .queue)) (v .1 .1 .1 .1 .0) (now (a .prios)) (now (a .lanes)) (v .1 .1 .1 .1 .1 .1 .0) (x .result) (d .result)
     (v .0) (v .1 .0) (v .1 .1 .0) (v .1 .1 .1 .0) (v .1 .1 .1 .1 .1 .0) (v .1 .1 .1 .1 .1 .1 .1 .0)
-    (p .result) (h .1) (x .ensures) (p .ensures .0) (p .ensures .1 .0) (p .ensures .1 .1) (h .0 .words)
-    (k .1 .1 .0) (k .0) (d .ensures .0) (d .ensures .1 .0) (d .ensures .1 .1 .0) (d .ensures .1 .1 .1)
+    (p .result) (h .1) (x .ensures) (p .ensures .0) (p .ensures .1 .0) (p .ensures .1 .1 .0) (h .0 .words)
+    (k .1 .1 .0) (k .0) (d .ensures .0) (d .ensures .1 .0) (d .ensures .1 .1 .0) (d .ensures .1 .1 .1) (p .ensures .1 .1 .1)
 
 pub plan-one-spec : {M : Type 1} → statement M
 plan-one-spec =

@@ -44,8 +44,8 @@ returns c =
     let p = c .planned in
     planned (c .before .before .before .before .before .before .before .before .before .before .before .before .before .before .before .before .before .before .before .before .before .before .before .before .args .s) (now (c .before .before .before .before .before .before .before .before .before .before .before .before .before .before .before .before .before .before .before .before .before .before .before .before .args .queue)) (d .last .1 .1 .1 .1 .1 .1 .1 .1 .1 .1 .0) (now (c .before .before .before .before .before .before .before .before .before .before .before .before .before .before .before .before .before .before .before .before .before .before .before .before .args .prios)) (now (c .before .before .before .before .before .before .before .before .before .before .before .before .before .before .before .before .before .before .before .before .before .before .before .before .args .lanes)) (d .last .1 .1 .1 .1 .1 .1 .1 .1 .1 .1 .1 .1 .0) (c .before .before .before .before .before .before .before .before .before .before .before .before .before .before .before .before .before .before .before .before .core-states .result) (d .result)
     (d .last .1 .1 .1 .1 .1 .1 .0) (d .last .1 .1 .1 .1 .1 .1 .1 .0) (d .last .1 .1 .1 .1 .1 .1 .1 .1 .0) (d .last .1 .1 .1 .1 .1 .1 .1 .1 .1 .0) (d .last .1 .1 .1 .1 .1 .1 .1 .1 .1 .1 .1 .0) (d .last .1 .1 .1 .1 .1 .1 .1 .1 .1 .1 .1 .1 .1 .0)
-    (p .result) (c .before .before .before .before .before .before .before .before .before .before .before .before .before .before .before .before .before .before .before .before .core-states .ensures) (p .ensures .0) (p .ensures .1 .0) (p .ensures .1 .1) (c .before .before .before .before .before .before .before .before .before .before .before .before .before .before .before .before .before .before .before .before .before .before .before .before .pre .cores) (c .before .before .before .before .before .before .before .before .before .before .before .before .before .before .before .before .before .before .before .before .before .before .before .before .pre .words)
-    (d .kept .1 .1 .1 .1 .1 .1 .1 .1 .1 .1 .1 .1 .0) (d .kept .1 .1 .1 .1 .1 .1 .1 .1 .1 .1 .0) (d .ensures .0) (d .ensures .1 .1 .0) (d .ensures .1 .1 .1 .0) (d .ensures .1 .1 .1 .1)
+    (p .result) (c .before .before .before .before .before .before .before .before .before .before .before .before .before .before .before .before .before .before .before .before .core-states .ensures) (p .ensures .0) (p .ensures .1 .0) (p .ensures .1 .1 .0) (c .before .before .before .before .before .before .before .before .before .before .before .before .before .before .before .before .before .before .before .before .before .before .before .before .pre .cores) (c .before .before .before .before .before .before .before .before .before .before .before .before .before .before .before .before .before .before .before .before .before .before .before .before .pre .words)
+    (d .kept .1 .1 .1 .1 .1 .1 .1 .1 .1 .1 .1 .1 .0) (d .kept .1 .1 .1 .1 .1 .1 .1 .1 .1 .1 .0) (d .ensures .0) (d .ensures .1 .1 .0) (d .ensures .1 .1 .1 .0) (d .ensures .1 .1 .1 .1) (λ h. p .ensures .1 .1 .1)
 
 pub plan-spec : {M : Type 1} → statement M
 plan-spec =

@@ -31,7 +31,7 @@ same-length : tie.Need-same-length
 same-length c = search needs
 
 returns : tie.Need-returns
-returns c = λ ts v. let a = c .before .before .before .before .before .before .before .before .before .args in pending-refused (a .s) ts (now (a .queue)) (now (a .prios)) (now (a .log)) (now (a .lanes)) v _ _ _ _ (c .before .before .enum-told .given .1) (c .before .before .before .before .check-tick .ensures)
+returns c = λ ts v. let a = c .before .before .before .before .before .before .before .before .before .args in pending-refused (a .s) ts (now (a .queue)) (now (a .prios)) (now (a .log)) (now (a .lanes)) v _ _ _ (now (a .lanes)) (c .switch-list .ensures) (c .before .before .enum-told .given .1) (c .before .before .before .before .check-tick .ensures)
 
 same-length-2 : tie.Need-same-length-2
 same-length-2 c = search needs

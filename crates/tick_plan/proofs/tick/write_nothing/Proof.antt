@@ -11,7 +11,7 @@ switch-list-requires c κs = search needs
 returns : tie.Need-returns
 returns c =
     let a = c .before .before .before .args in
-    (refl, nothing-written (a .s) (now (a .lanes)) (record { log = a .s .log; takes = 0; switches = c .switch-list .result }) refl refl (c .switch-list .ensures .0))
+    (refl, nothing-written (a .s) (now (a .lanes)) (record { log = a .s .log; takes = 0; switches = c .switch-list .result }) refl refl (c .switch-list .ensures))
 
 pub write-nothing-spec : {M : Type 1} → statement M
 write-nothing-spec = tie.close (tie.spec switch-list-requires returns)
