@@ -36,7 +36,7 @@ use Rattle.walkkit.proofs.Returned.{Returns}
 use Rattle.sched.proofs.Memory.{At, Lists, Long, slice, Token, Slice, Last, spends, Whole, Gone}
 use Rattle.state.specs.declared.Sched.{Sched}
 use Rattle.state.specs.Memory.{memory}
-use Rattle.state.specs.Done.{Done}
+use Rattle.tick_plan.specs.DoneWith.{DoneWith}
 use Rattle.sched.specs.declared.Call.{Call}
 use Rattle.sched.specs.declared.Applied.{Applied}
 use Rattle.sched.specs.Meant.{callMeant, outcomeMeant}
@@ -55,7 +55,7 @@ pub record Out : Type 0 where
 
 -- what its contract says
 unfoldable pub Claim : (s : Sched) (c : Call) (m : Lists) → Applied → Lists → Type 0
-Claim s c m r z = Done (callMeant c) (outcomeMeant (r .outcome) (r .switches)) s (r .sched) (memory (m .ts) (m .qs) (m .ps) (m .ls) (m .ws)) (memory (z .ts) (z .qs) (z .ps) (z .ls) (z .ws))
+Claim s c m r z = DoneWith (callMeant c) (outcomeMeant (r .outcome) (r .switches)) (r .switches) s (r .sched) (memory (m .ts) (m .qs) (m .ps) (m .ls) (m .ws)) (memory (z .ts) (z .qs) (z .ps) (z .ls) (z .ws))
 
 pub record Told (s : Sched) (c : Call) (m : Lists) (w : Val) (x : Out) : Type 0 where
   pub claim : Claim s c m (x .answered) (x .lists)

@@ -1,5 +1,6 @@
 // The report program's core: one line of a script fed to the scheduler on lent memory, and what stands at the end. All that is printed is put into
 // a lent buffer.
+// Its public functions are parts for other crates: no host calls them.
 use feed_plan::Fed;
 use feed_plan::Line;
 use feed_plan::Next;

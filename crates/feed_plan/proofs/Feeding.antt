@@ -22,12 +22,13 @@ use Rattle.model.specs.declared.CallAnswer.the-variants as CallCases
 use Rattle.model.specs.Types.{State}
 use Rattle.model.specs.Calls as Calls
 use Rattle.model.specs.Calls.{check, refusedNew, madeOf, new, unmade, made, step}
-use Rattle.model.proofs.Invariants.{check-none}
+use Rattle.model.proofs.Refusals.{check-none, check-rest}
 use Rattle.checks.specs.Check.{checkMeant}
 use Rattle.state.specs.declared.Sched.{Sched}
 use Rattle.state.specs.Memory.{memory}
 use Rattle.state.specs.State.{meantAt, Valid, laneStart}
-use Rattle.state.specs.Done.{Done}
+use Rattle.switches.specs.Entries.{noSwitches}
+use Rattle.tick_plan.specs.DoneWith.{DoneWith}
 use Rattle.new_plan.specs.declared.Created.{Created}
 use Rattle.new_plan.specs.First.{coreCount, isShort, orRefusal, newRefusal}
 use Rattle.new_plan.specs.Made.{NewDone, NewTaken}
@@ -38,7 +39,6 @@ use Rattle.sched.specs.Meant.{callMeant, outcomeMeant}
 use Rattle.script.specs.Script.{callLine}
 use Rattle.script.specs.Report as Definition
 use Rattle.script.specs.Report.{heads, calls, ended, over, answerText, refusedText, created, begun, said, lineAt, feed}
-use Rattle.script.proofs.Consistency.{check-rest}
 use Rattle.script.proofs.Prints.{allowance}
 use Rattle.script.proofs.Room.{callRoom, lineRoom, feed-well}
 use Rattle.feed_plan.specs.declared.Stage.{Stage}
@@ -92,7 +92,7 @@ module _ (s : Sched) (ts : List ThreadInfo) (qs ps ls ws : List ℕ) where
 module _ (r : Report) (ts : List ThreadInfo) (qs ps ls ws : List ℕ) where
   refused-done : (k : Refusal) (l : Line) → Counts (r .stage) → r .lines ≤ 1_000_000_000_000 → Held (r .stage) (r .sched) ts qs ps ls ws
       → fedOf (reportMeant r ts qs ls ws) l ≡ fedOf (reportMeant r ts qs ls ws) (LineCases.Plain (PlainCases.Refused k)) → LineDone r l ts ts qs qs ps ps ls ls ws ws (refusedNext r k)
-  unfolding reportMeant nextText answerText
+  unfolding reportMeant nextText answerText noSwitches
   refused-done k l c f h e =
       let g : Definition.Stage = stageMeant (r .stage) (r .head) (meantAt (r .sched) ts qs ls ws) in
       record {
@@ -100,11 +100,12 @@ module _ (r : Report) (ts : List ThreadInfo) (qs ps ls ws : List ℕ) where
         text = ap (λ (m : ℕ). refusedText m (refusalNumber k)) (counts (r .head) (meantAt (r .sched) ts qs ls ws) (r .lines) (r .stage) c) ∙ sym (ap (λ (x : Definition.Fed). x .out) e);
         held = refused-held (r .sched) ts qs ps ls ws (r .stage) h;
         number = omega arith;
+        listed = omega arith;
       }
 
   pub plain-done : (p : Plain) → LineAsked r (LineCases.Plain p) ts qs ps ls ws → LineDone r (LineCases.Plain p) ts ts qs qs ps ps ls ls ws ws (plainNext r p)
-  unfolding reportMeant nextText answerText
-  plain-done PlainCases.Nothing a = record { report = rests (r .head) (meantAt (r .sched) ts qs ls ws) (r .lines) (r .stage) (a .fits); text = refl; held = a .held; number = omega arith }
+  unfolding reportMeant nextText answerText noSwitches
+  plain-done PlainCases.Nothing a = record { report = rests (r .head) (meantAt (r .sched) ts qs ls ws) (r .lines) (r .stage) (a .fits); text = refl; held = a .held; number = omega arith; listed = omega arith }
   plain-done (PlainCases.Refused k) a = refused-done k (LineCases.Plain (PlainCases.Refused k)) (a .fits .0) (a .fits .1) (a .held) refl
   plain-done (PlainCases.Head h) a =
       record {
@@ -112,6 +113,7 @@ module _ (r : Report) (ts : List ThreadInfo) (qs ps ls ws : List ℕ) where
         text = refl;
         held = tt;
         number = omega arith;
+        listed = omega arith;
       }
 
 ---- the scheduler is made
@@ -142,13 +144,14 @@ module _ (c : SchedConfig) (n : ℕ) (ts : List ThreadInfo) (qs ps ls ws : List 
 module _ (r : Report) (c : SchedConfig) (n : ℕ) (ts ts' : List ThreadInfo) (qs ps ps' ls ls' ws : List ℕ) where
   start-taken : (s : Sched) → r .stage ≡ StageCases.Heads → r .lines ≤ 1_000_000_000_000 → NewTaken c n reportCapacities 0 (memory ts qs ps ls ws) (memory ts' qs ps' ls' ws) s
       → LineDone r (LineCases.Start c n) ts ts' qs qs ps ps' ls ls' ws ws (answeredNext r s CallCases.Taken)
-  unfolding reportMeant nextText answerText begun created
+  unfolding reportMeant nextText answerText begun created noSwitches
   start-taken s e f t =
       record {
         report = ap (λ (m : ℕ). record { lines = m; stage = calls (meantAt s ts' qs ls' ws) }) (in-heads (r .head) (meantAt (r .sched) ts qs ls ws) (r .lines) (r .stage) e) ∙ sym (ap (λ (x : Calls.Made). counting (begun (suc (reportMeant r ts qs ls ws .lines)) x .report)) (t .state));
         text = sym (ap (λ (x : Calls.Made). begun (suc (reportMeant r ts qs ls ws .lines)) x .out) (t .state));
         held = t .valid;
         number = omega arith;
+        listed = omega arith;
       }
 
   start-refused : (k : Refusal) → LineAsked r (LineCases.Start c n) ts qs ps ls ws → newRefusal c n reportCapacities (length ts) (length qs) (length ps) (length ls) (length ws) ≡ some (refusalNumber k)
@@ -180,9 +183,10 @@ stepped-text : (n m : ℕ) (s t : State) (a b : Calls.Answer) → n ≡ m → s 
 stepped-text n m s t a b p q w = λ i. answerText (p i) (q i .now) (w i)
 
 pub call-done : (r : Report) (c : Call) (x : Applied) (ts ts' : List ThreadInfo) (qs qs' ps ps' ls ls' ws ws' : List ℕ) → LineAsked r (LineCases.Call c) ts qs ps ls ws
-    → Done (callMeant c) (outcomeMeant (x .outcome) (x .switches)) (r .sched) (x .sched) (memory ts qs ps ls ws) (memory ts' qs' ps' ls' ws') → LineDone r (LineCases.Call c) ts ts' qs qs' ps ps' ls ls' ws ws' (appliedNext r x)
+    → DoneWith (callMeant c) (outcomeMeant (x .outcome) (x .switches)) (x .switches) (r .sched) (x .sched) (memory ts qs ps ls ws) (memory ts' qs' ps' ls' ws') → LineDone r (LineCases.Call c) ts ts' qs qs' ps ps' ls ls' ws ws' (appliedNext r x)
 unfolding reportMeant nextText said meantAt
-call-done r c x ts ts' qs qs' ps ps' ls ls' ws ws' a d =
+call-done r c x ts ts' qs qs' ps ps' ls ls' ws ws' a t =
+    let d = t .done in
     let s : State = meantAt (r .sched) ts qs ls ws in
     let n : ℕ = suc (linesIn (stageMeant (r .stage) (r .head) s) (r .lines)) in
     let e : r .lines + 1 ≡ n = in-calls (r .head) s (r .lines) (r .stage) (a .fits .0) in
@@ -192,6 +196,7 @@ call-done r c x ts ts' qs qs' ps ps' ls ls' ws ws' a d =
       text = stepped-text (r .lines + 1) n (meantAt (x .sched) ts' qs' ls' ws') (step s (callMeant c) .state) _ _ e (d .state) (d .answer) ∙ sym (ap (λ (f : Definition.Fed). f .out) k);
       held = d .valid;
       number = omega arith;
+      listed = t .list .few;
     }
 
 ---- the whole line
@@ -248,7 +253,7 @@ module _ (r : Report) (line : List ℕ) (ts : List ThreadInfo) (qs ps ls ws : Li
     pub sayable : (b : List ℕ) → 288 ≤ length b → Sayable x b
     sayable b h =
         let w = feed-well d line (v .kept) in
-        record { number = k .number; short = omega arith; long = rw same-text (omega (arith, w .fits, line-room (d .stage) (lineAt (suc (d .lines)) line))) }
+        record { number = k .number; listed = k .listed; short = omega arith; long = rw same-text (omega (arith, w .fits, line-room (d .stage) (lineAt (suc (d .lines)) line))) }
 
     pub feed-done : (b b' : List ℕ) (f : Fed) → Roomy ts' qs' ps' ls' ws' → SaidAs x b b' f → FeedDone r line b b' ts ts' qs qs' ps ps' ls ls' ws ws' f
     feed-done b b' f m z =

@@ -48,10 +48,12 @@ pub record LineDone (r : Report) (l : Line) (ts ts' : List ThreadInfo) (qs qs' p
   pub text : nextText x ≡ fedOf (reportMeant r ts qs ls ws) l .out
   pub held : Held (x .report .stage) (x .report .sched) ts' qs' ps' ls' ws'
   pub number : x .line ≤ 1_000_000_000_001
+  pub listed : x .switches .count ≤ 8
 
 -- room for what a line may print
 pub record Sayable (x : Next) (b : List ℕ) : Type 0 where
   pub number : x .line ≤ 1_000_000_000_001
+  pub listed : x .switches .count ≤ 8
   pub short : 36 ≤ length b
   pub long : length (nextText x) ≤ length b
 

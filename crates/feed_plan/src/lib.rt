@@ -1,5 +1,6 @@
 // One line of a script fed to the report program, without the lent thread records: what the line says, what it makes of the report, and what is
 // put into the lent buffer.
+// Its public functions are parts for other crates: no host calls them.
 use rcfg::Head;
 use sched::Call;
 use sched::Outcome;

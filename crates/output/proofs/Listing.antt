@@ -47,10 +47,6 @@ module _ (b : List ℕ) (at now : ℕ) (es : List SwitchWords) (i n : ℕ) (d : 
   pub put-one : (b₂ : List ℕ) (r₂ : ℕ) → Put b₁ r₁ (switchText now (switchWordsMeant (getD es i d))) b₂ r₂ → Put b at (switchTexts now (switchesMeant es (suc i))) b₂ r₂
   put-one b₂ r₂ q = put-same b at _ (switchTexts now (switchesMeant es (suc i))) b₂ r₂ (texts-next now es i d (omega arith)) (put-next p room q)
 
--- behind the last entry there is none
-pub all-entries : (es : List SwitchWords) (n : ℕ) → length es ≤ n → switchesMeant es (length es) ≡ switchesMeant es n
-all-entries es n h = ap (map switchWordsMeant) (take-all (length es) es (omega arith) ∙ sym (take-all n es h))
-
 ---- the room
 
 -- 01's report: at most eight entries, each at most 36 bytes

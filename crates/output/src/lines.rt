@@ -101,18 +101,15 @@ fn put_entry(out: &mut [u8], at: usize, tick: Tick, w: SwitchWords) -> usize
     put_switch(out, at, tick, switch_of(w))
 }
 
-// A line for each of the first n entries, in order; there are no more than eight, whatever n is.
+// A line for each of the first n entries, in order.
 fn put_entries(out: &mut [u8], at: usize, tick: Tick, entries: [SwitchWords; 8], n: usize) -> usize
-    requires { ⌜ at + length (switchTexts (tick .0) (switchesMeant entries n)) ≤ length (now out) ⌝ }
+    requires { ⌜ (n ≤ 8) × (at + length (switchTexts (tick .0) (switchesMeant entries n)) ≤ length (now out)) ⌝ }
     ensures { λ r. ⌜ Put (now (out .entry)) at (switchTexts (tick .0) (switchesMeant entries n)) (now (out .exit)) r ⌝ }
 {
     let es = entries;
     let mut end = at;
     let mut i: usize = 0;
-    while i < 8 {
-        if n <= i {
-            return end;
-        }
+    while i < n {
         let e = es[i];
         end = put_entry(out, end, tick, e);
         i += 1;
@@ -122,7 +119,7 @@ fn put_entries(out: &mut [u8], at: usize, tick: Tick, entries: [SwitchWords; 8],
 
 // The lines of a switch list.
 pub fn put_switches(out: &mut [u8], at: usize, tick: Tick, switches: SwitchList) -> usize
-    requires { ⌜ at + length (switchTexts (tick .0) (switchesMeant (switches .entries) (switches .count))) ≤ length (now out) ⌝ }
+    requires { ⌜ (switches .count ≤ 8) × (at + length (switchTexts (tick .0) (switchesMeant (switches .entries) (switches .count))) ≤ length (now out)) ⌝ }
     ensures { λ r. ⌜ Put (now (out .entry)) at (switchTexts (tick .0) (switchesMeant (switches .entries) (switches .count))) (now (out .exit)) r ⌝ }
 {
     let entries = switches.entries;

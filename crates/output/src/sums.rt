@@ -3,7 +3,7 @@ use crate::values::put_decimal;
 use record_reads::totals::Totals;
 use state::Sched;
 use summary::Sums;
-use summary::sums_of;
+use summary::sums_from;
 use text::put::put;
 ghost use mathlib.Core.List.{List, _∷_, [], _++_};
 ghost use Prim.Native.Nat.{ℕ, _+_, _<_, _≤_, _^_};
@@ -96,6 +96,6 @@ pub fn put_summary_of(out: &mut [u8], at: usize, s: Sched, totals: Totals) -> us
     ensures text { λ r. ⌜ ((ts : List ThreadInfo) (qs ps ls ws : List ℕ) → Summed s totals ts qs ps ls ws → Put (now (out .entry)) at (summary (meantAt s ts qs ls ws)) (now (out .exit)) r) ⌝ }
     ensures short { λ r. ⌜ r ≤ at + 400 ⌝ }
 {
-    let n = sums_of(s, totals);
+    let n = sums_from(s, totals);
     put_summary(out, at, n)
 }

@@ -80,7 +80,7 @@ module _ (r : Report) (u : Upcoming) (i : ℕ) (c : Line) (m : Lists) (bs : List
     printable = (
       runs .awaits .roomy,
       subst (λ (t : ℕ). t < limit) (runs .turns) less,
-      record { number = fits-in .number; short = subst (λ (k : ℕ). length (nextText x) ≤ k) (length-replicate {A = ℕ} 288 0) (fits-in .long); few = lines-few (x .report) [] (z .ts) (z .qs) (z .ps) (z .ls) (z .ws) valid-next },
+      record { number = fits-in .number; listed = fits-in .listed; short = subst (λ (k : ℕ). length (nextText x) ≤ k) (length-replicate {A = ℕ} 288 0) (fits-in .long); few = lines-few (x .report) [] (z .ts) (z .qs) (z .ps) (z .ls) (z .ws) valid-next },
       runs .room,
     )
 

@@ -159,6 +159,7 @@ pendingText p b = take (p .pending) (drop 65_536 b)
 -- what a line makes the program print, before the next one is looked for
 pub record Printable (x : Next) : Type 0 where
   pub number : x .line ≤ 1_000_000_000_001
+  pub listed : x .switches .count ≤ 8
   pub short : length (nextText x) ≤ 288
   pub few : Few (x .report .stage) (x .report .lines)
 

@@ -1,5 +1,6 @@
 // The report program's input and output, in blocks, without the lent thread records: the next line of the script, and what is printed. One lent buffer holds
 // a block of the script and, behind it, a block of the report.
+// Its public functions are parts for other crates: no host calls them.
 use feed_plan::Line;
 use feed_plan::Next;
 use feed_plan::Report;

@@ -1,4 +1,5 @@
 // A whole script in memory, without the lent thread records: its lines, the room that its report takes, and where reading and printing stand.
+// Its public functions are parts for other crates: no host calls them.
 use feed_plan::Line;
 use feed_plan::Next;
 use feed_plan::Report;

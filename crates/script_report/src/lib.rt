@@ -1,4 +1,5 @@
 // The report program on a script in memory.
+// Its public functions are parts for other crates: no host calls them.
 use feed::advance;
 use feed_plan::saying::record_count;
 use model::ThreadInfo;

@@ -27,7 +27,9 @@ enum-told : tie.Need-enum-told
 enum-told c = search needs
 
 put-switches-requires : tie.Need-put-switches-requires
-put-switches-requires c κs = switches-room _ _ (c .before .enum-told .given .1) (c .before .before .before .before .before .before .before .before .pre .long)
+put-switches-requires c κs =
+    let p = c .before .before .before .before .before .before .before .before .pre in
+    (p .listed, switches-room _ _ (c .before .enum-told .given .1) (p .long))
 
 enum-told-2 : tie.Need-enum-told-2
 enum-told-2 c = search needs
