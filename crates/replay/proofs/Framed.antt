@@ -3,22 +3,25 @@ use Prim.Native.Nat.{ℕ, suc, pred, _+_, _-_, _*_, _≤_, max}
 use native.Mathlib.Omega.{arith}
 use mathlib.Core.Path.{_≡_, refl, sym, ap, subst, _∙_}
 use mathlib.Core.Option.{Option, none, some}
-use mathlib.Core.List.{List, [], _∷_}
-use lib.ListN.{length, drop, getElem?, length-replicate}
-use lib.Seq.{drop-drop}
+use mathlib.Core.List.{List, [], _∷_, map}
+use lib.ListN.{length, take, drop, getElem?, length-map, length-take, length-replicate}
+use lib.Seq.{drop-drop, length-take-le}
 use Rattle.settings.specs.declared.SchedConfig.{SchedConfig}
 use Rattle.settings.specs.Reading.{policyMeant}
 use Rattle.model.specs.declared.ThreadInfo.{ThreadInfo}
 use Rattle.model.specs.Types.{Policy, State}
 use Rattle.model.specs.Calls.{Call, spawn, exit, join, retired, yield, priority, timing, force, tick, close, JoinOutcome, Done, Wait, Invalid, Made, made, unmade, outcome, threadStateOf, tidOn, exited, blocking, refusal, accept, stepped, step, run, refusedNew, initialState, idleCore, madeOf, new}
+use Rattle.model.specs.Reading.{threadMeant}
 use Rattle.model.proofs.Bounded.{accept-cores}
+use Rattle.model.proofs.Placement.{queue-fits, threads-grow}
 use Rattle.state.specs.declared.Capacities.{Capacities}
 use Rattle.state.specs.declared.Sched.{Sched}
-use Rattle.state.specs.Memory.{memory}
+use Rattle.state.specs.Memory.{Memory, memory}
 use Rattle.state.specs.State.{meantAt, Valid, laneStart}
 use Rattle.state.specs.Done as D
 use Rattle.state.proofs.Firsts.{length-firsts}
 use Rattle.new_plan.specs.First.{coreCount}
+use Rattle.replay.specs.Chain.{Link, Linked, lastSched, lastMemory}
 use Rattle.replay.specs.Replay.{Behind}
 
 pub record Fixed (s t : State) : Type 0 where
@@ -96,21 +99,72 @@ module _ (T E S c : ℕ) (ts ts' ts″ : List ThreadInfo) (qs qs' qs″ ps ps' p
   behind-both h k = record { threads = k .threads ∙ h .threads; queue = k .queue ∙ h .queue; prios = k .prios ∙ h .prios; log = k .log ∙ h .log; lanes = k .lanes ∙ h .lanes }
 
 module _ (s t : Sched) (ts ts' : List ThreadInfo) (qs qs' ps ps' ls ls' ws ws' : List ℕ) where
-  -- what one call leaves, at the capacities of a state that has the same
-  pub behind-call : (T E S c : ℕ) → T ≡ s .capacities .threads → E ≡ s .capacities .events → S ≡ s .capacities .segments → c ≡ s .cores → Alike s t
-      → Valid s (memory ts qs ps ls ws) → Valid t (memory ts' qs' ps' ls' ws') → D.Frame s t (memory ts qs ps ls ws) (memory ts' qs' ps' ls' ws') → Behind T E S c (memory ts qs ps ls ws) (memory ts' qs' ps' ls' ws')
-  behind-call T E S c eT eE eS ec a v v' f =
-      let same : t .capacities .threads ≡ s .capacities .threads = a .threads in
-      let used : t .threads ≤ t .capacities .threads = v' .sizes .inUse in
-      let waits : s .queued ≤ s .capacities .threads = v .sizes .waiting in
-      let waits' : t .queued ≤ t .capacities .threads = v' .sizes .waiting in
+  -- what one call leaves, behind n threads
+  pub behind-at : (n E S c : ℕ) → s .queued ≤ n → t .queued ≤ n → t .threads ≤ n → E ≡ s .capacities .events → S ≡ s .capacities .segments → c ≡ s .cores
+      → D.Frame s t (memory ts qs ps ls ws) (memory ts' qs' ps' ls' ws') → Behind n E S c (memory ts qs ps ls ws) (memory ts' qs' ps' ls' ws')
+  behind-at n E S c waits waits' used eE eS ec f =
       record {
-        threads = drop-up (t .threads) T ts ts' (omega arith) (f .threads);
-        queue = drop-up (max (s .queued) (t .queued)) T qs qs' (omega arith) (f .queue);
-        prios = drop-up (t .threads) T ps ps' (omega arith) (f .prios);
+        threads = drop-up (t .threads) n ts ts' used (f .threads);
+        queue = drop-up (max (s .queued) (t .queued)) n qs qs' (omega arith) (f .queue);
+        prios = drop-up (t .threads) n ps ps' used (f .prios);
         log = subst (λ (x : ℕ). drop (2 * x) ls' ≡ drop (2 * x) ls) (sym eE) (f .log);
         lanes = subst (λ (x : ℕ). drop (laneStart S x) ws' ≡ drop (laneStart S x) ws) (sym ec) (subst (λ (x : ℕ). drop (laneStart x (s .cores)) ws' ≡ drop (laneStart x (s .cores)) ws) (sym eS) (f .lanes));
       }
+
+  -- and behind the capacity, at the capacities of a state that has the same
+  pub behind-call : (T E S c : ℕ) → T ≡ s .capacities .threads → E ≡ s .capacities .events → S ≡ s .capacities .segments → c ≡ s .cores → Alike s t
+      → Valid s (memory ts qs ps ls ws) → Valid t (memory ts' qs' ps' ls' ws') → D.Frame s t (memory ts qs ps ls ws) (memory ts' qs' ps' ls' ws') → Behind T E S c (memory ts qs ps ls ws) (memory ts' qs' ps' ls' ws')
+  behind-call T E S c eT eE eS ec a v v' =
+      behind-at T E S c (omega (arith, eT, v .sizes .waiting)) (omega (arith, eT, a .threads, v' .sizes .waiting)) (omega (arith, eT, a .threads, v' .sizes .inUse)) eE eS ec
+
+---- over a chain
+
+-- 01: "The child joins the back of the queue.": nobody stands there who is no thread
+pub queued-threads : (s : Sched) (m : Memory) → Valid s m → s .queued ≤ s .threads
+unfolding meantAt
+queued-threads s m v =
+    let a = queue-fits (meantAt s (m .threads) (m .queue) (m .log) (m .lanes)) (v .bounded .placed) in
+    let b = length-take-le (s .queued) (m .queue) (omega (arith, v .sizes .waiting, v .sizes .queue)) in
+    let c = length-map (take (s .threads) (m .threads)) threadMeant in
+    let d = length-take-le (s .threads) (m .threads) (omega (arith, v .sizes .inUse, v .sizes .threads)) in
+    omega (arith, a, b, c, d)
+
+-- threads are made and never unmade
+pub threads-kept : (s t : Sched) (m m' : Memory) (c : Call) → Valid s m → Valid t m' → meantAt t (m' .threads) (m' .queue) (m' .log) (m' .lanes) ≡ step (meantAt s (m .threads) (m .queue) (m .log) (m .lanes)) c .state → s .threads ≤ t .threads
+unfolding meantAt
+threads-kept s t m m' c v v' e =
+    let g = threads-grow (meantAt s (m .threads) (m .queue) (m .log) (m .lanes)) c in
+    let a = length-map (take (s .threads) (m .threads)) threadMeant in
+    let b = length-take-le (s .threads) (m .threads) (omega (arith, v .sizes .inUse, v .sizes .threads)) in
+    let a' = length-map (take (t .threads) (m' .threads)) threadMeant in
+    let b' = length-take-le (t .threads) (m' .threads) (omega (arith, v' .sizes .inUse, v' .sizes .threads)) in
+    let f : length (map threadMeant (take (t .threads) (m' .threads))) ≡ length (step (meantAt s (m .threads) (m .queue) (m .log) (m .lanes)) c .state .accounts .threads) = ap (λ (x : State). length (x .accounts .threads)) e in
+    omega (arith, g, a, b, a', b', f)
+
+pub linked-threads : (s : Sched) (m : Memory) (ls : List Link) → Valid s m → Linked s m ls → s .threads ≤ lastSched s ls .threads
+linked-threads s m [] v h = omega arith
+linked-threads s m (l ∷ ls) v h =
+    let a = threads-kept s (l .sched) m (l .memory) (l .call) v (h .0 .valid) (h .0 .state) in
+    let b = linked-threads (l .sched) (l .memory) ls (h .0 .valid) (h .1) in
+    omega (arith, a, b)
+
+run-one : (s : State) (c : Call) → run s (c ∷ []) ≡ step s c .state
+unfolding run
+run-one s c = refl
+
+pub linked-behind : (s : Sched) (m : Memory) (ls : List Link) → Valid s m → Linked s m ls → Behind (lastSched s ls .threads) (s .capacities .events) (s .capacities .segments) (s .cores) m (lastMemory m ls)
+linked-behind s m [] v h = behind-none (s .threads) (s .capacities .events) (s .capacities .segments) (s .cores) (m .threads) (m .queue) (m .prios) (m .log) (m .lanes)
+linked-behind s m (l ∷ ls) v h =
+    let t = l .sched in
+    let w = l .memory in
+    let v' = h .0 .valid in
+    let same : Alike s t = alike s t (m .threads) (w .threads) (m .queue) (w .queue) (m .log) (w .log) (m .lanes) (w .lanes) (l .call ∷ []) (h .0 .state ∙ sym (run-one _ (l .call))) in
+    let kept = threads-kept s t m w (l .call) v v' (h .0 .state) in
+    let more = linked-threads t w ls v' (h .1) in
+    let one = behind-at s t (m .threads) (w .threads) (m .queue) (w .queue) (m .prios) (w .prios) (m .log) (w .log) (m .lanes) (w .lanes) (lastSched t ls .threads) (s .capacities .events) (s .capacities .segments) (s .cores)
+    (omega (arith, queued-threads s m v, kept, more)) (omega (arith, queued-threads t w v', more)) more refl refl refl (h .0 .frame) in
+    let others : Behind (lastSched t ls .threads) (s .capacities .events) (s .capacities .segments) (s .cores) w (lastMemory w ls) = rw (← same .events, ← same .segments, ← same .cores) (linked-behind t w ls v' (h .1)) in
+    record { threads = others .threads ∙ one .threads; queue = others .queue ∙ one .queue; prios = others .prios ∙ one .prios; log = others .log ∙ one .log; lanes = others .lanes ∙ one .lanes }
 
 ---- `new`
 
@@ -149,10 +203,15 @@ module _ (c : SchedConfig) (n : ℕ) (k : Capacities) (entry : ℕ) (m : Sched) 
   unfolding initialState meantAt coreCount
   first-cores = sym (ap suc (length-replicate (pred n) idleCore)) ∙ ap (λ (x : State). length (x .cores)) first-is ∙ length-firsts _ (m .cores)
 
+  -- thread 0 is there
+  pub first-one : 1 ≤ m .threads
+  unfolding initialState meantAt
+  first-one = omega (arith, ap (λ (x : State). length (x .accounts .threads)) first-is, length-map (take (m .threads) ts₁) threadMeant, length-take (m .threads) ts₁)
+
   pub first-some : Valid m (memory ts₁ qs ps₁ ls₁ ws) → 1 ≤ k .threads
   unfolding meantAt
   first-some v = subst (λ (x : ℕ). 1 ≤ x) (sym first-threads) (v .bounded .settings .capT)
 
   -- it writes the first record and priority, and the log
-  pub behind-new : 1 ≤ k .threads → drop 1 ts₁ ≡ drop 1 ts → drop 1 ps₁ ≡ drop 1 ps → drop (2 * k .events) ls₁ ≡ drop (2 * k .events) ls → Behind (k .threads) (k .events) (k .segments) (coreCount n) (memory ts qs ps ls ws) (memory ts₁ qs ps₁ ls₁ ws)
-  behind-new pos a b d = record { threads = drop-up 1 (k .threads) ts ts₁ pos a; queue = refl; prios = drop-up 1 (k .threads) ps ps₁ pos b; log = d; lanes = refl }
+  pub behind-new : (i : ℕ) → 1 ≤ i → drop 1 ts₁ ≡ drop 1 ts → drop 1 ps₁ ≡ drop 1 ps → drop (2 * k .events) ls₁ ≡ drop (2 * k .events) ls → Behind i (k .events) (k .segments) (coreCount n) (memory ts qs ps ls ws) (memory ts₁ qs ps₁ ls₁ ws)
+  behind-new i pos a b d = record { threads = drop-up 1 i ts ts₁ pos a; queue = refl; prios = drop-up 1 i ps ps₁ pos b; log = d; lanes = refl }

@@ -9,7 +9,7 @@ use Rattle.settings.specs.Reading.{policyMeant}
 use Rattle.model.specs.declared.CallAnswer.{CallAnswer}
 use Rattle.model.specs.Types.{RoundRobin, State}
 use Rattle.model.specs.Calls.{Call, Answer, step, new, made}
-use Rattle.model.specs.Claims.{WaitHolds, StayHolds}
+use Rattle.guarantees.specs.Claims.{WaitHolds, StayHolds}
 use Rattle.state.specs.declared.Capacities.{Capacities}
 use Rattle.state.specs.declared.Sched.{Sched}
 use Rattle.state.specs.Memory.{Memory}
@@ -43,6 +43,28 @@ abbrev pub Agrees : State → List Link → Type 0
 Agrees d [] = Unit {0}
 Agrees d (l ∷ ls) = (meant (l .sched) (l .memory) ≡ step d (l .call) .state) × (l .answer ≡ step d (l .call) .answer) × Valid (l .sched) (l .memory) × Agrees (step d (l .call) .state) ls
 
+---- what the last call left and said; s, m and a where none was made
+
+abbrev pub lastSched : Sched → List Link → Sched
+lastSched s [] = s
+lastSched s (l ∷ ls) = lastSched (l .sched) ls
+
+abbrev pub lastMemory : Memory → List Link → Memory
+lastMemory m [] = m
+lastMemory m (l ∷ ls) = lastMemory (l .memory) ls
+
+abbrev pub lastSaid : Answer → List Link → Answer
+lastSaid a [] = a
+lastSaid a (l ∷ ls) = lastSaid (l .answer) ls
+
+---- the guarantees
+
+-- demand 3 of a list of calls that begins at `start`: "One claim on the whole list is asked". Wherever it is cut, the wait and the stay are bounded; conditions are asked of `during` alone, whatever comes after it is asked nothing
+pub record Guaranteed (c : SchedConfig) (n : ℕ) (start : State) (cs : List Call) : Type 0 where
+  -- "It starts from what an accepted `new` with policy rr left"
+  pub waits : policyMeant (c .policy) ≡ RoundRobin → (before during rest : List Call) → before ++ (during ++ rest) ≡ cs → WaitHolds (c .quantum) (c .«switch_cost») n start before during
+  pub stays : policyMeant (c .policy) ≡ RoundRobin → (before during rest : List Call) → before ++ (during ++ rest) ≡ cs → StayHolds (c .quantum) (c .«switch_cost») start before during
+
 pub record ChainHolds (c : SchedConfig) (n : ℕ) (k : Capacities) (entry : ℕ) (s₀ : Sched) (m₀ : Memory) (ls : List Link) : Type 0 where
   -- what the definition's `new` makes of the same arguments
   pub start : State
@@ -50,8 +72,5 @@ pub record ChainHolds (c : SchedConfig) (n : ℕ) (k : Capacities) (entry : ℕ)
   -- "… equal the definition's after `new` and after every call"
   pub first : meant s₀ m₀ ≡ start
   pub agrees : Agrees start ls
-  -- "One claim on the whole list is asked": wherever its calls are cut
-  pub waits :
-      policyMeant (c .policy) ≡ RoundRobin → (before during rest : List Call) → before ++ (during ++ rest) ≡ map (λ (l : Link). l .call) ls → WaitHolds (c .quantum) (c .«switch_cost») n start before during
-  pub stays :
-      policyMeant (c .policy) ≡ RoundRobin → (before during rest : List Call) → before ++ (during ++ rest) ≡ map (λ (l : Link). l .call) ls → StayHolds (c .quantum) (c .«switch_cost») start before during
+  -- of the calls that were made, and of every list that goes on from them
+  pub guarantees : (more : List Call) → Guaranteed c n start (map (λ (l : Link). l .call) ls ++ more)

@@ -21,6 +21,7 @@ ghost use lib.ListN.{length, take};
 ghost use Rattle.model.specs.Calls.{ok};
 ghost use Rattle.state.specs.Memory.{lent};
 ghost use Rattle.state.specs.State.{Valid};
+ghost use Rattle.switches.specs.Entries.{noSwitches};
 ghost use Rattle.checks.specs.Check.{checkMeant};
 ghost use Rattle.sched.specs.Meant.{callMeant, outcomeMeant};
 ghost use Rattle.replay.specs.Encoding.{callOf, callAt, callsOf};
@@ -91,7 +92,7 @@ fn sched_of(last: Applied) -> Sched
 
 // Before the first call: what `new` left.
 fn first_of(created: Created) -> Applied
-    ensures { λ r. ⌜ (r .sched ≡ created .sched) × (outcomeMeant (r .outcome) (r .switches) ≡ ok) ⌝ }
+    ensures { λ r. ⌜ (r .sched ≡ created .sched) × (outcomeMeant (r .outcome) (r .switches) ≡ ok) × (r .switches ≡ noSwitches) ⌝ }
 {
     let sched = created.sched;
     let switches = no_switches();

@@ -72,7 +72,7 @@ module _ (c : SchedConfig) (n : ℕ) (k : Capacities) (ts ts₁ : List ThreadInf
             state = ran e .state;
             valid = ran e .valid;
             behind = behind-both (k .threads) (k .events) (k .segments) (coreCount n) ts ts₁ ts' qs qs qs' ps ps₁ ps₂ ls ls₁ ls' ws ws ws'
-                (behind-new c n k 0 (m .sched) ts ts₁ qs ps ps₁ ls ls₁ ws (t .state) (first-some c n k 0 (m .sched) ts ts₁ qs ps ps₁ ls ls₁ ws (t .state) (t .valid)) (t .threads) (t .prios) (t .log)) (behind-as-given e (ran e .behind));
+                (behind-new c n k 0 (m .sched) ts ts₁ qs ps ps₁ ls ls₁ ws (t .state) (k .threads) (first-some c n k 0 (m .sched) ts ts₁ qs ps ps₁ ls ls₁ ws (t .state) (t .valid)) (t .threads) (t .prios) (t .log)) (behind-as-given e (ran e .behind));
           }
 
       made-done : LoadDone c n k count ticks (memory ts qs ps ls ws) (memory ts' qs' ps₂ ls' ws') (record { made = m .answer; sched = h })

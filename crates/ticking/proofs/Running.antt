@@ -11,6 +11,7 @@ use Rattle.model.proofs.LoopLaws.{run-append}
 use Rattle.state.specs.declared.Sched.{Sched}
 use Rattle.state.specs.Memory.{memory}
 use Rattle.state.specs.State.{meantAt, Valid}
+use Rattle.state.specs.Asked.{Askable, nothing}
 use Rattle.state.specs.Done.{Done}
 use Rattle.replay.specs.Replay.{Behind}
 use Rattle.replay.proofs.Framed.{Alike, alike, behind-none, behind-both, behind-call}
@@ -70,9 +71,9 @@ reported-next s t u a i h d ts qs ps ls ws v =
     subst (λ (n : ℕ). Ran (reports n) s u (memory ts qs ps ls ws) (memory ts qs ps ls ws)) (sym p)
     (ran-both s t u ts ts ts qs qs qs ps ps ps ls ls ls ws ws ws (reports i) (retired i ∷ []) x (ran-one t u ts ts qs qs ps ps ls ls ws ws (retired i) a (x .valid) (d ts qs ps ls ws (x .valid))))
 
-pub reported-cores : (s t : Sched) (i : ℕ) → Lent s → Reported s i t → t .cores ≤ 8
+pub reported-asks : (s t : Sched) (i : ℕ) → Lent s → Reported s i t → Askable t nothing
 unfolding Reported
-reported-cores s t i m h = h (m .threads) (m .queue) (m .prios) (m .log) (m .lanes) (m .valid) .valid .sizes .cores
+reported-asks s t i m h = (memory (m .threads) (m .queue) (m .prios) (m .log) (m .lanes), h (m .threads) (m .queue) (m .prios) (m .log) (m .lanes) (m .valid) .valid, tt)
 
 pub reported-all : (s t : Sched) (i : ℕ) → i ≡ s .cores → Reported s i t → (ts : List ThreadInfo) (qs ps ls ws : List ℕ) → Valid s (memory ts qs ps ls ws) → Ran (reports (s .cores)) s t (memory ts qs ps ls ws) (memory ts qs ps ls ws)
 unfolding Reported

@@ -1,5 +1,6 @@
 // A load: a scheduler made, threads spawned, and many ticks one after the other: in each, every core reports by `retired`, and `end_tick` ends it.
 // No call is a value that has to be taken apart, so that what is timed is the calls themselves.
+// Its public functions are parts for other crates: no host calls them.
 use model::CallAnswer;
 use model::CoreId;
 use model::OptionTid;

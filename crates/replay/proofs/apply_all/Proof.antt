@@ -25,13 +25,13 @@ use Rattle.model.specs.declared.ThreadInfo.{ThreadInfo}
 use Rattle.state.specs.declared.Sched.{Sched}
 use Rattle.state.specs.Memory.{memory}
 use Rattle.state.specs.State.{Valid}
-use Rattle.state.specs.Done.{Done}
+use Rattle.tick_plan.specs.DoneWith.{DoneWith}
 use Rattle.sched.specs.declared.Applied.{Applied}
 use Rattle.sched.specs.Meant.{callMeant, outcomeMeant}
 use Rattle.sched.specs.declared.Call.{Call}
 use Rattle.replay.specs.Encoding.{callAt, callsOf}
 use Rattle.replay.specs.Replay.{AppliedAll}
-use Rattle.replay.proofs.Lists.{all-none, all-next}
+use Rattle.replay.proofs.Lists.{all-none, all-valid, all-next}
 use Rattle.model.proofs.ThreadInfo as T
 use Rattle.replay.proofs.call_at as reading
 use Rattle.replay.proofs.call_at.Symbol as reading-def
@@ -60,16 +60,17 @@ reads words fit less = omega arith
 
 applies : (words : List ℕ) {n i : ℕ} {a b : Applied} {ts ts' : List ThreadInfo} {qs qs' ps ps' ls ls' ws ws' : List ℕ} {s : Sched}
     → (0 < n → Valid (a .sched) (memory ts qs ps ls ws)) → i < n → AppliedAll (take i (callsOf words)) a b (memory ts qs ps ls ws) (memory ts' qs' ps' ls' ws') → s ≡ b .sched → Valid s (memory ts' qs' ps' ls' ws')
-applies words {n} {i} valid less made s-is = rw s-is (made .valid (valid positive))
+applies words {n} {i} {a} {b} {ts} {ts'} {qs} {qs'} {ps} {ps'} {ls} {ls'} {ws} {ws'} valid less made s-is =
+    rw s-is (all-valid (take i (callsOf words)) a b (memory ts qs ps ls ws) (memory ts' qs' ps' ls' ws') made (valid positive))
   where
     positive : 0 < n
     positive = omega arith
 
 goes-on : (words : List ℕ) {n i : ℕ} {a b : Applied} {ts ts' ts″ : List ThreadInfo} {qs qs' qs″ ps ps' ps″ ls ls' ls″ ws ws' ws″ : List ℕ} {s : Sched} (c : Call) (d : Applied)
     → 3 * n ≤ length words → i < n → AppliedAll (take i (callsOf words)) a b (memory ts qs ps ls ws) (memory ts' qs' ps' ls' ws') → s ≡ b .sched → callMeant c ≡ callAt words i
-    → Done (callMeant c) (outcomeMeant (d .outcome) (d .switches)) s (d .sched) (memory ts' qs' ps' ls' ws') (memory ts″ qs″ ps″ ls″ ws″) → AppliedAll (take (i + 1) (callsOf words)) a d (memory ts qs ps ls ws) (memory ts″ qs″ ps″ ls″ ws″)
+    → DoneWith (callMeant c) (outcomeMeant (d .outcome) (d .switches)) (d .switches) s (d .sched) (memory ts' qs' ps' ls' ws') (memory ts″ qs″ ps″ ls″ ws″) → AppliedAll (take (i + 1) (callsOf words)) a d (memory ts qs ps ls ws) (memory ts″ qs″ ps″ ls″ ws″)
 goes-on words {n} {i} {a} {b} {ts} {ts'} {ts″} {qs} {qs'} {qs″} {ps} {ps'} {ps″} {ls} {ls'} {ls″} {ws} {ws'} {ws″} c d fit less made s-is c-is is-done =
-    all-next a b d ts ts' ts″ qs qs' qs″ ps ps' ps″ ls ls' ls″ ws ws' ws″ words i (reads words fit less) made (callMeant c) c-is (rw s-is at is-done)
+    all-next a b d (memory ts qs ps ls ws) (memory ts' qs' ps' ls' ws') (memory ts″ qs″ ps″ ls″ ws″) words i (reads words fit less) made (callMeant c) c-is (rw s-is at is-done)
 
 module _ {M : Type 1} (𝓤 : URA M) (H : Heap 𝓤) (A : Atoms 𝓤) (W : Given 𝓤 H A) (mem : Memory → SProp 𝓤) (run : Routine → Fun 𝓤) where
   abbrev params : List (Param 𝓤 H A)
@@ -104,7 +105,7 @@ module _ {M : Type 1} (𝓤 : URA M) (H : Heap 𝓤) (A : Atoms 𝓤) (W : Given
         (
           tt,
           counts 𝓤 H 11 n (Left κs shs a are) (λ j. (9, j .state .last .v) ∷ (10, vint w64 (j .count)) ∷ []) (λ j. ⋆ 𝓤 H A (items-at 𝓤 H A 6 κs shs 0 params a are (j .state .lists)))
-              (record { last = known (applied 𝓤 H A W) (a .0) (are .0); lists = first 𝓤 H A 6 κs shs 0 params a are; made = all-none (a .0) ts₀ qs₀ ps₀ ls₀ ws₀ }) refl refl (λ j.
+              (record { last = known (applied 𝓤 H A W) (a .0) (are .0); lists = first 𝓤 H A 6 κs shs 0 params a are; made = all-none (a .0) (memory ts₀ qs₀ ps₀ ls₀ ws₀) }) refl refl (λ j.
               let i : ℕ = j .count in
               let b : Known (applied 𝓤 H A W) = j .state .last in
               let ts₁ : List ThreadInfo = j .state .lists .0 .0 in

@@ -20,6 +20,7 @@ use Rattle.model.specs.declared.ThreadInfo.{ThreadInfo}
 use Rattle.model.specs.Calls.{ok}
 use Rattle.state.specs.Memory.{memory}
 use Rattle.state.specs.State.{Valid}
+use Rattle.switches.specs.Entries.{noSwitches}
 use Rattle.checks.specs.Check.{checkMeant}
 use Rattle.new_plan.specs.Made.{NewDone}
 use Rattle.sched.specs.Meant.{outcomeMeant}
@@ -105,13 +106,13 @@ module _ {M : Type 1} (𝓤 : URA M) (H : Heap 𝓤) (A : Atoms 𝓤) (W : Given
       -- let first = first_of(created)
       let ss₂ : List (Pass 𝓤 H A) = value m ∷ [] in
       let xs₂ = args 𝓤 H A es₂ ss₂ in
-      calls-with 𝓤 H A W es₂ ss₂ fm free (applied 𝓤 H A W) (λ r ws. (r .sched ≡ m .x .sched) × (outcomeMeant (r .outcome) (r .switches) ≡ ok)) (λ g. met .2 ((lfts xs₂ g, shares xs₂, tt, denots 0 xs₂ g, valss 0 xs₂ g), tt)) refl tt (λ b l₂ le₂ b-is.
+      calls-with 𝓤 H A W es₂ ss₂ fm free (applied 𝓤 H A W) (λ r ws. (r .sched ≡ m .x .sched) × (outcomeMeant (r .outcome) (r .switches) ≡ ok) × (r .switches ≡ noSwitches)) (λ g. met .2 ((lfts xs₂ g, shares xs₂, tt, denots 0 xs₂ g, valss 0 xs₂ g), tt)) refl tt (λ b l₂ le₂ b-is.
       let es₃ = left-by xs₂ l₂ le₂ es₂ in
       -- let last = apply_all(first, calls, n, threads, queue, prios, log, lanes)
       let ss₃ : List (Pass 𝓤 H A) = value b ∷ shown 0 ∷ value d ∷ lent 1 ∷ lent 2 ∷ lent 3 ∷ lent 4 ∷ lent 5 ∷ [] in
       let xs₃ = args 𝓤 H A es₃ ss₃ in
       calls-with 𝓤 H A W es₃ ss₃ fm
-      (asks ((3 * d .x ≤ length words) × (0 < d .x → Valid (b .x .sched) (memory ts₁ qs₀ ps₁ ls₁ ws₀))) (rw d-is (due-fits (checkMeant (m .x .answer)) (length words) (upto .x)), λ some. first-valid (c .x) (n .x) (k .x) (pc .x) (length words) (upto .x) ts ts₁ qs₀ ps₀ ps₁ ls ls₁ ws₀ (m .x) (b .x) new-done (b-is .0) (rw d-is at some)))
+      (asks ((3 * d .x ≤ length words) × (0 < d .x → Valid (b .x .sched) (memory ts₁ qs₀ ps₁ ls₁ ws₀))) (rw d-is (due-fits (checkMeant (m .x .answer)) (length words) (upto .x)), λ some. first-valid (c .x) (n .x) (k .x) (pc .x) (length words) (upto .x) (memory ts qs₀ ps₀ ls ws₀) (memory ts₁ qs₀ ps₁ ls₁ ws₀) (m .x) (b .x) new-done (b-is .0) (rw d-is at some)))
       (applied 𝓤 H A W) (λ r ws. AppliedAll (take (d .x) (callsOf words)) (b .x) r (memory ts₁ qs₀ ps₁ ls₁ ws₀) (memory (ws .1 .1 .1 .0) (ws .1 .1 .1 .1 .0) (ws .1 .1 .1 .1 .1 .0) (ws .1 .1 .1 .1 .1 .1 .0) (ws .1 .1 .1 .1 .1 .1 .1 .0)))
       (λ g. met .3 ((lfts xs₃ g, shares xs₃, tt, denots 0 xs₃ g, valss 0 xs₃ g), tt)) refl tt (λ e l₃ le₃ all-applied.
       let es₄ = left-by xs₃ l₃ le₃ es₃ in
@@ -125,7 +126,7 @@ module _ {M : Type 1} (𝓤 : URA M) (H : Heap 𝓤) (A : Atoms 𝓤) (W : Given
       let xs₄ = args 𝓤 H A es₄ ss₄ in
       calls-with 𝓤 H A W es₄ ss₄ fm free (replayed 𝓤 H A W) (λ r ws. (r .made ≡ m .x .answer) × (r .sched ≡ e .x .sched) × (r .outcome ≡ e .x .outcome) × (r .switches ≡ e .x .switches)) (λ g. met .4 ((lfts xs₄ g, shares xs₄, tt, denots 0 xs₄ g, valss 0 xs₄ g), tt)) refl tt (λ r l₄ le₄ r-is. (
         finish 𝓤 H A W params (replayed 𝓤 H A W) (f.clauses 𝓤 H A mem run) κs shs bounds a g are r ((ts', le₃ .0), ((qs', le₃ .1 .0), ((ps', le₃ .1 .1 .0), ((ls', le₃ .1 .1 .1 .0), ((ws', le₃ .1 .1 .1 .1 .0), tt)))))
-            (replay-done (c .x) (n .x) (k .x) (pc .x) words (upto .x) ts ts₁ ts' qs₀ qs' ps₀ ps₁ ps' ls ls₁ ls' ws₀ ws' (m .x) (b .x) (e .x) (r .x) new-done b-is r-is (rw d-is at all-applied)) refl,
+            (replay-done (c .x) (n .x) (k .x) (pc .x) words (upto .x) (memory ts qs₀ ps₀ ls ws₀) (memory ts₁ qs₀ ps₁ ls₁ ws₀) (memory ts' qs' ps' ls' ws') (m .x) (b .x) (e .x) (r .x) new-done b-is r-is (rw d-is at all-applied)) refl,
         tt,
       ))))))))
 

@@ -2,7 +2,7 @@
 use borrow.Author.Needs.{needs}
 use native.Mathlib.Omega.{arith}
 use Prim.Native.Nat.{_-_, _≤_}
-use Rattle.ticking.proofs.Running.{Reported, reported-none, reported-next, reported-cores, reported-all}
+use Rattle.ticking.proofs.Running.{Reported, reported-none, reported-next, reported-asks, reported-all}
 use Rattle.ticking.proofs.retired_all.Statement.{statement}
 use Rattle.ticking.proofs.retired_all.Tie as tie
 
@@ -19,7 +19,7 @@ cast-t7 : tie.Need-cast-t7 Inv-loop μ-loop
 cast-t7 c = record { fits = omega (arith, c .before .before .pre .valid .sizes .cores) }
 
 retired-requires : tie.Need-retired-requires Inv-loop μ-loop
-retired-requires c κs = reported-cores _ _ _ (c .before .before .pre) (c .before .loop .inv .1)
+retired-requires c κs = reported-asks _ _ _ (c .before .before .pre) (c .before .loop .inv .1)
 
 add-core : tie.Need-add-core Inv-loop μ-loop
 add-core c = search needs

@@ -26,7 +26,8 @@ use Rattle.model.specs.Reading.{switchAnswerMeant}
 use Rattle.state.specs.declared.Sched.{Sched}
 use Rattle.state.specs.Memory.{memory}
 use Rattle.state.specs.State.{Valid}
-use Rattle.state.specs.Done.{Done}
+use Rattle.switches.specs.Entries.{answerWith}
+use Rattle.tick_plan.specs.DoneWith.{DoneWith}
 use Rattle.tick_plan.specs.declared.Ticked.{Ticked}
 use Rattle.ticking.specs.Turns.{reports, Ran, TurnsDone, Lent}
 use Rattle.ticking.proofs.Running.{Reported, turns-none, turns-next}
@@ -62,12 +63,12 @@ abbrev AllReported : Sched → Sched → Type 0
 AllReported t u = (ts : List ThreadInfo) (qs ps ls ws : List ℕ) → Valid t (memory ts qs ps ls ws) → Ran (reports (t .cores)) t u (memory ts qs ps ls ws) (memory ts qs ps ls ws)
 
 abbrev EndTicked : Sched → Ticked → (ts ts' : List ThreadInfo) (qs qs' ps ls ls' ws ws' : List ℕ) → Type 0
-EndTicked u d ts ts' qs qs' ps ls ls' ws ws' = Done Calls.tick (switchAnswerMeant (d .answer) (d .switches .entries) (d .switches .count)) u (d .sched) (memory ts qs ps ls ws) (memory ts' qs' ps ls' ws')
+EndTicked u d ts ts' qs qs' ps ls ls' ws ws' = DoneWith Calls.tick (answerWith (d .answer) (d .switches)) (d .switches) u (d .sched) (memory ts qs ps ls ws) (memory ts' qs' ps ls' ws')
 
 goes-on : {i : ℕ} {s t u z : Sched} {ts ts' ts″ : List ThreadInfo} {qs qs' qs″ ps ls ls' ls″ ws ws' ws″ : List ℕ} (d : Ticked) → TurnsDone i s t ts ts' qs qs' ps ls ls' ws ws' → AllReported t u
     → EndTicked u d ts' ts″ qs' qs″ ps ls' ls″ ws' ws″ → z ≡ d .sched → TurnsDone (i + 1) s z ts ts″ qs qs″ ps ls ls″ ws ws″
 unfolding Reported
-goes-on {i} {s} {t} {u} {z} {ts} {ts'} {ts″} {qs} {qs'} {qs″} {ps} {ls} {ls'} {ls″} {ws} {ws'} {ws″} d made reported is-done z-is = rw z-is (turns-next s t u (d .sched) ts ts' ts″ qs qs' qs″ ps ls ls' ls″ ws ws' ws″ i _ made reported is-done)
+goes-on {i} {s} {t} {u} {z} {ts} {ts'} {ts″} {qs} {qs'} {qs″} {ps} {ls} {ls'} {ls″} {ws} {ws'} {ws″} d made reported is-done z-is = rw z-is (turns-next s t u (d .sched) ts ts' ts″ qs qs' qs″ ps ls ls' ls″ ws ws' ws″ i _ made reported (is-done .done))
 
 module _ {M : Type 1} (𝓤 : URA M) (H : Heap 𝓤) (A : Atoms 𝓤) (W : Given 𝓤 H A) (mem : Memory → SProp 𝓤) (run : Routine → Fun 𝓤) where
   abbrev params : List (Param 𝓤 H A)
