@@ -1,7 +1,7 @@
 // What the cores do.
+use crate::OptionTicks;
 use model::CoreId;
 use model::CoreState;
-use model::CoreTicks;
 use model::OptionCore;
 use model::OptionTid;
 use model::Tid;
@@ -9,27 +9,39 @@ use state::Sched;
 use state::state_at;
 use state::unpack;
 ghost use mathlib.Core.Path.{_≡_};
-ghost use mathlib.Core.Option.{Option, some};
-ghost use mathlib.Core.List.{List};
-ghost use Prim.Native.Nat.{ℕ, _≤_, _<_};
-ghost use lib.ListN.{getElem?, take, drop};
-ghost use mathlib.Core.Bool.{cond};
-ghost use Rattle.model.specs.declared.ThreadInfo.{ThreadInfo};
+ghost use mathlib.Core.List.{_++_, map};
+ghost use Prim.Native.Nat.{_-_};
+ghost use lib.ListN.{length, getElem?, replicate};
+ghost use Rattle.model.specs.Types.{Idle};
 ghost use Rattle.model.specs.Phases.{holder};
 ghost use Rattle.model.specs.Calls.{coreStateOf};
 ghost use Rattle.model.specs.Questions.{runner, runningOn, threadOn, coreOf};
 ghost use Rattle.model.specs.Accounting.{isHolder};
-ghost use Rattle.model.specs.Reading.{coreStateMeant, coreTicksMeant, optionTidMeant, optionCoreMeant};
-ghost use Rattle.state.specs.Memory.{memory};
-ghost use Rattle.state.specs.State.{meantAt, Valid};
+ghost use Rattle.model.specs.Reading.{coreStateMeant, optionTidMeant, optionCoreMeant};
+ghost use Rattle.state.specs.Asked.{Askable, Answers, nothing};
+ghost use Rattle.questions.specs.Questions.{coreStates};
+ghost use Rattle.questions.specs.Reading.{optionTicksMeant};
 
 // What a core does; idle where there is none.
 pub fn core_state(s: Sched, core: CoreId) -> CoreState
-    ensures { λ r. ⌜ ((ts : List ThreadInfo) (qs ps ls ws : List ℕ) → Valid s (memory ts qs ps ls ws)
-        → coreStateMeant r ≡ coreStateOf (meantAt s ts qs ls ws) (core .0)) ⌝ }
+    ensures { λ r. ⌜ Answers s nothing (λ d. coreStateMeant r ≡ coreStateOf d (core .0)) ⌝ }
 {
     let states = s.states;
     state_at(states, core.0 as usize)
+}
+
+// What each core does, and idle behind the last of them (`core_count`).
+pub fn cores(s: Sched) -> [CoreState; 8]
+    ensures { λ r. ⌜ Answers s nothing (λ d. map coreStateMeant r ≡ coreStates d ++ replicate (8 - length (d .cores)) Idle) ⌝ }
+{
+    let states = s.states;
+    unpack(states)
+}
+
+pub fn core_count(s: Sched) -> usize
+    ensures { λ r. ⌜ Answers s nothing (λ d. r ≡ length (d .cores)) ⌝ }
+{
+    s.cores
 }
 
 fn running_in(state: CoreState) -> OptionTid
@@ -42,7 +54,8 @@ fn running_in(state: CoreState) -> OptionTid
     }
 }
 
-fn held_in(state: CoreState) -> OptionTid
+// The Rust's `CoreState::tid`: the thread that holds a core in this state, running or switching in.
+pub fn holder_of(state: CoreState) -> OptionTid
     ensures { λ r. ⌜ optionTidMeant r ≡ holder (coreStateMeant state) ⌝ }
 {
     match state {
@@ -54,28 +67,29 @@ fn held_in(state: CoreState) -> OptionTid
 
 // The thread that a core executes; a core that switches to one holds it but does not execute it yet.
 pub fn running_on(s: Sched, core: CoreId) -> OptionTid
-    ensures { λ r. ⌜ ((ts : List ThreadInfo) (qs ps ls ws : List ℕ) → Valid s (memory ts qs ps ls ws)
-        → optionTidMeant r ≡ runningOn (meantAt s ts qs ls ws) (core .0)) ⌝ }
+    ensures { λ r. ⌜ Answers s nothing (λ d. optionTidMeant r ≡ runningOn d (core .0)) ⌝ }
 {
     running_in(core_state(s, core))
 }
 
 // The thread on a core, running or switching in.
 pub fn thread_on(s: Sched, core: CoreId) -> OptionTid
-    ensures { λ r. ⌜ ((ts : List ThreadInfo) (qs ps ls ws : List ℕ) → Valid s (memory ts qs ps ls ws)
-        → optionTidMeant r ≡ threadOn (meantAt s ts qs ls ws) (core .0)) ⌝ }
+    ensures { λ r. ⌜ Answers s nothing (λ d. optionTidMeant r ≡ threadOn d (core .0)) ⌝ }
 {
-    held_in(core_state(s, core))
+    holder_of(core_state(s, core))
 }
 
-// One core's counters; none where there is no such core, as the list of counters has none.
-pub fn core_ticks(s: Sched, core: CoreId) -> CoreTicks
-    requires { ⌜ (s .cores ≤ 8) × (core .0 < s .cores) ⌝ }
-    ensures { λ r. ⌜ ((ts : List ThreadInfo) (qs ps ls ws : List ℕ) → Valid s (memory ts qs ps ls ws)
-        → some (coreTicksMeant r) ≡ getElem? (meantAt s ts qs ls ws .accounts .ticks) (core .0)) ⌝ }
+// One core's counters.
+pub fn core_ticks(s: Sched, core: CoreId) -> OptionTicks
+    requires { ⌜ Askable s nothing ⌝ }
+    ensures { λ r. ⌜ Answers s nothing (λ d. optionTicksMeant r ≡ getElem? (d .accounts .ticks) (core .0)) ⌝ }
 {
     let i = core.0 as usize;
-    s.ticks[i]
+    if s.cores <= i {
+        return OptionTicks::None;
+    }
+    let ticks = s.ticks[i];
+    OptionTicks::Some(ticks)
 }
 
 fn is_held_by(state: CoreState, tid: Tid) -> bool
@@ -88,16 +102,14 @@ fn is_held_by(state: CoreState, tid: Tid) -> bool
     }
 }
 
-// The core that a thread is on, running or switching in.
+// The core that a thread is on, running or switching in. A core that is not there is idle, so all eight are looked at.
 pub fn core_of(s: Sched, tid: Tid) -> OptionCore
-    requires { ⌜ s .cores ≤ 8 ⌝ }
-    ensures { λ r. ⌜ ((ts : List ThreadInfo) (qs ls ws : List ℕ) → optionCoreMeant r ≡ coreOf (meantAt s ts qs ls ws) (tid .0)) ⌝ }
+    ensures { λ r. ⌜ Answers s nothing (λ d. optionCoreMeant r ≡ coreOf d (tid .0)) ⌝ }
 {
     let states = s.states;
     let a = unpack(states);
-    let n = s.cores;
     let mut i = 0;
-    while i < n {
+    while i < 8 {
         let state = a[i];
         if is_held_by(state, tid) {
             return OptionCore::Some(CoreId(i as u32));

@@ -1,4 +1,5 @@
 // The settings' text: read line by line, and written into a lent buffer.
+// `from_rcfg` and `to_rcfg` are for hosts; the others are parts.
 use settings::Refusal;
 use settings::SchedConfig;
 

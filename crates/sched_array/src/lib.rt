@@ -1,4 +1,5 @@
-// The calls for a host that holds the thread records in an array of its own: 256 records by value. Whoever calls these lends no record.
+// The calls, and the questions about the threads, for a host that holds the thread records in an array of its own: 256 records by value. Whoever calls these
+// lends no record.
 use model::ThreadInfo;
 use new_plan::Created;
 use sched::Applied;
@@ -8,12 +9,19 @@ use sched_new::new;
 use settings::SchedConfig;
 use state::Capacities;
 use state::Sched;
+use summary::FigureBits;
+use thread_questions::bits_of;
+use thread_questions::has_live_threads;
+use thread_questions::has_runnable_threads;
+use thread_questions::is_deadlocked;
 ghost use mathlib.Core.Path.{_≡_};
 ghost use Rattle.state.specs.Memory.{memory};
 ghost use Rattle.state.specs.State.{Valid};
-ghost use Rattle.state.specs.Done.{Done};
+ghost use Rattle.state.specs.Asked.{Askable, Answers, theThreads};
+ghost use Rattle.tick_plan.specs.DoneWith.{DoneWith};
 ghost use Rattle.sched.specs.Meant.{callMeant, outcomeMeant};
 ghost use Rattle.new_plan.specs.Made.{NewDone};
+ghost use Rattle.sched_array.specs.Reading.{askedOf};
 
 // What a call leaves, with the records.
 pub struct Stepped {
@@ -25,6 +33,14 @@ pub struct Stepped {
 pub struct Started {
     pub created: Created,
     pub threads: [ThreadInfo; 256],
+}
+
+// What is left to run, and the bit patterns of the summary's figures.
+pub struct Asked {
+    pub live: bool,
+    pub runnable: bool,
+    pub deadlocked: bool,
+    pub bits: FigureBits,
 }
 
 fn step_of(applied: Applied, threads: [ThreadInfo; 256]) -> Stepped
@@ -39,6 +55,17 @@ fn start_of(created: Created, threads: [ThreadInfo; 256]) -> Started
     Started { created, threads }
 }
 
+fn asked_of(live: bool, runnable: bool, deadlocked: bool, bits: FigureBits) -> Asked
+    ensures { λ r. ⌜ r ≡ record { live = live; runnable = runnable; deadlocked = deadlocked; bits = bits } ⌝ }
+{
+    Asked {
+        live,
+        runnable,
+        deadlocked,
+        bits,
+    }
+}
+
 // `sched::apply`.
 pub fn apply_in(
     s: Sched,
@@ -50,7 +77,7 @@ pub fn apply_in(
     lanes: &mut [u64],
 ) -> Stepped
     requires { ⌜ Valid s (memory threads (now queue) (now prios) (now log) (now lanes)) ⌝ }
-    ensures { λ r. ⌜ Done (callMeant call) (outcomeMeant (r .applied .outcome) (r .applied .switches)) s (r .applied .sched)
+    ensures { λ r. ⌜ DoneWith (callMeant call) (outcomeMeant (r .applied .outcome) (r .applied .switches)) (r .applied .switches) s (r .applied .sched)
         (memory threads (now (queue .entry)) (now (prios .entry)) (now (log .entry)) (now (lanes .entry)))
         (memory (r .threads) (now (queue .exit)) (now (prios .exit)) (now (log .exit)) (now (lanes .exit))) ⌝ }
 {
@@ -88,4 +115,16 @@ pub fn new_in(
         lanes,
     );
     start_of(created, records)
+}
+
+// The questions about all threads.
+pub fn asked_in(s: Sched, threads: [ThreadInfo; 256]) -> Asked
+    requires { ⌜ Askable s (theThreads threads) ⌝ }
+    ensures { λ r. ⌜ Answers s (theThreads threads) (λ d. r ≡ askedOf d) ⌝ }
+{
+    let live = has_live_threads(s, &threads);
+    let runnable = has_runnable_threads(s, &threads);
+    let deadlocked = is_deadlocked(s, &threads);
+    let bits = bits_of(s, &threads);
+    asked_of(live, runnable, deadlocked, bits)
 }

@@ -1,4 +1,5 @@
 // The settings: policies, their words, the three settings with their limits, and the numbers of all refusals.
+// What a policy and the settings say of themselves is for hosts; `policy_of` and `is_beyond` are parts.
 ghost use mathlib.Core.Path.{_≡_};
 ghost use Rattle.settings.specs.Settings.{defaults};
 ghost use Rattle.settings.specs.Reading.{settingsMeant, refusalNumber};

@@ -3,7 +3,7 @@ ghost use mathlib.Core.Path.{_≡_};
 ghost use mathlib.Core.List.{map, []};
 ghost use Prim.Native.Nat.{_+_, _<_};
 ghost use lib.ListN.{getD, length};
-ghost use Rattle.settings.specs.Policy.{isEnabled, isPreemptive, Off};
+ghost use Rattle.settings.specs.Policy.{allPolicies, isEnabled, isPreemptive, Off};
 ghost use Rattle.text.specs.Bytes.{lowerOf, same};
 ghost use Rattle.text.specs.Lines.{trim};
 ghost use Rattle.settings.specs.Settings.{words, policies, policyOf, policyWord, policyLabel};
@@ -121,7 +121,22 @@ pub fn policy_of(w: &[u8]) -> PolicyFound
     PolicyFound::Unknown
 }
 
+// Every policy, in the Rust's order.
+const ALL: [SchedPolicy; 4] = [
+    SchedPolicy::Off,
+    SchedPolicy::Fifo,
+    SchedPolicy::RoundRobin,
+    SchedPolicy::Priority,
+];
+
 impl SchedPolicy {
+    // Every policy, for a host that shows a choice.
+    pub fn all() -> [SchedPolicy; 4]
+        ensures { λ r. ⌜ map policyMeant r ≡ allPolicies ⌝ }
+    {
+        ALL
+    }
+
     // The word that settings are written with.
     pub fn as_str(self) -> Word
         ensures { λ r. ⌜ Spells r (policyWord (policyMeant self)) ⌝ }

@@ -4,7 +4,8 @@ use mathlib.Core.Path.{_≡_}
 use mathlib.Core.List.{List}
 use lib.Ieee.{binary64, toBits}
 use Rattle.model.specs.declared.ThreadInfo.{ThreadInfo}
-use Rattle.model.specs.Accounting.{Sums}
+use Rattle.model.specs.Types.{State}
+use Rattle.model.specs.Accounting.{Sums, sums}
 use Rattle.model.specs.Questions.{Figures}
 use Rattle.record_reads.specs.declared.totals.Totals.{Totals}
 use Rattle.record_reads.specs.Totals.{totalsOf}
@@ -30,6 +31,10 @@ sumsMeant r =
       busy = r .busy;
       coreTicks = r .«core_ticks»;
     }
+
+-- the definition's sums, with the time of the summary
+abbrev pub SumsAre : Program.Sums → State → Type 0
+SumsAre r d = (sumsMeant r ≡ sums (d .accounts)) × (r .now .0 ≡ d .now)
 
 abbrev pub figuresMeant : SchedSummary → Figures
 figuresMeant r = record { waiting = r .«avg_waiting»; response = r .«avg_response»; turnaround = r .«avg_turnaround»; utilization = r .utilization }

@@ -1,4 +1,5 @@
 // The summary: exact sums over threads and cores, and the four figures, each one division of two sums.
+// `sums_from`, `figures_from` and `bits_from` are parts: they take the sums over the thread records, which `thread_questions` makes of the records.
 use model::CoreTicks;
 use model::Tick;
 use record_reads::totals::Totals;
@@ -13,7 +14,7 @@ ghost use Rattle.model.specs.Accounting.{sums};
 ghost use Rattle.model.specs.Questions.{figures};
 ghost use Rattle.model.specs.Questions.{mean as Questions·mean};
 ghost use Rattle.state.specs.State.{meantAt, noTicks};
-ghost use Rattle.summary.specs.Reading.{sumsMeant, figuresMeant, figureBits, Summed};
+ghost use Rattle.summary.specs.Reading.{SumsAre, figuresMeant, figureBits, Summed};
 ghost use Rattle.summary.specs.Cores.{allTicks, busyIn, allIn};
 ghost use Rattle.summary.specs.Fit.{Fit};
 
@@ -90,10 +91,9 @@ fn core_totals(ticks: [CoreTicks; 8], n: usize) -> CoreTotals
 }
 
 // The exact sums, from the sums over the thread records and the cores' counters.
-pub fn sums_of(s: Sched, totals: Totals) -> Sums
+pub fn sums_from(s: Sched, totals: Totals) -> Sums
     requires { ⌜ ((ts : List ThreadInfo) × (qs : List ℕ) × (ps : List ℕ) × (ls : List ℕ) × (ws : List ℕ) × Summed s totals ts qs ps ls ws) ⌝ }
-    ensures sums { λ r. ⌜ ((ts : List ThreadInfo) (qs ps ls ws : List ℕ) → Summed s totals ts qs ps ls ws → (sumsMeant r ≡ sums (meantAt s ts qs ls ws .accounts)) × (r .now .0 ≡ meantAt s ts qs ls ws .now)) ⌝ }
-    ensures fit { λ r. ⌜ Fit r ⌝ }
+    ensures { λ r. ⌜ ((ts : List ThreadInfo) (qs ps ls ws : List ℕ) → Summed s totals ts qs ps ls ws → SumsAre r (meantAt s ts qs ls ws)) × Fit r ⌝ }
 {
     let counters = s.ticks;
     let tick = s.now;
@@ -125,11 +125,11 @@ fn mean(sum: u64, count: u64) -> f64
 }
 
 // The four figures.
-pub fn summary(s: Sched, totals: Totals) -> SchedSummary
+pub fn figures_from(s: Sched, totals: Totals) -> SchedSummary
     requires { ⌜ ((ts : List ThreadInfo) × (qs : List ℕ) × (ps : List ℕ) × (ls : List ℕ) × (ws : List ℕ) × Summed s totals ts qs ps ls ws) ⌝ }
     ensures { λ r. ⌜ ((ts : List ThreadInfo) (qs ps ls ws : List ℕ) → Summed s totals ts qs ps ls ws → figuresMeant r ≡ figures (sums (meantAt s ts qs ls ws .accounts))) ⌝ }
 {
-    let n = sums_of(s, totals);
+    let n = sums_from(s, totals);
     SchedSummary {
         avg_waiting: mean(n.waiting, n.threads),
         avg_response: mean(n.response, n.responded),
@@ -148,11 +148,11 @@ fn mean_bits(sum: u64, count: u64) -> u64
 }
 
 // The bit patterns of the four figures.
-pub fn bits_of(s: Sched, totals: Totals) -> FigureBits
+pub fn bits_from(s: Sched, totals: Totals) -> FigureBits
     requires { ⌜ ((ts : List ThreadInfo) × (qs : List ℕ) × (ps : List ℕ) × (ls : List ℕ) × (ws : List ℕ) × Summed s totals ts qs ps ls ws) ⌝ }
     ensures { λ r. ⌜ ((ts : List ThreadInfo) (qs ps ls ws : List ℕ) → Summed s totals ts qs ps ls ws → r ≡ figureBits (figures (sums (meantAt s ts qs ls ws .accounts)))) ⌝ }
 {
-    let n = sums_of(s, totals);
+    let n = sums_from(s, totals);
     FigureBits {
         waiting: mean_bits(n.waiting, n.threads),
         response: mean_bits(n.response, n.responded),

@@ -9,7 +9,7 @@ use Rattle.questions.proofs.context_switches.Lts as lts
 
 returns : tie.Need-returns
 unfolding meantAt
-returns c = λ ts qs ls ws. refl
+returns c = λ m v r. refl
 
 pub context-switches-spec : {M : Type 1} → statement M
 context-switches-spec = tie.close (tie.spec returns)

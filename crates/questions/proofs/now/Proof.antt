@@ -9,7 +9,7 @@ use Rattle.questions.proofs.now.Lts as lts
 
 returns : tie.Need-returns
 unfolding meantAt
-returns c = λ ts qs ls ws. refl
+returns c = λ m v r. refl
 
 pub now-spec : {M : Type 1} → statement M
 now-spec = tie.close (tie.spec returns)

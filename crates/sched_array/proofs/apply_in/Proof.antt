@@ -21,7 +21,7 @@ use Rattle.model.specs.Calls.{Call, Answer}
 use Rattle.state.specs.declared.Sched.{Sched}
 use Rattle.state.specs.Memory.{memory}
 use Rattle.state.specs.State.{Valid}
-use Rattle.state.specs.Done.{Done}
+use Rattle.tick_plan.specs.DoneWith.{DoneWith}
 use Rattle.sched.specs.declared.Applied.{Applied}
 use Rattle.sched.specs.Meant.{callMeant, outcomeMeant}
 use Rattle.sched_array.specs.declared.Stepped.{Stepped}
@@ -45,8 +45,8 @@ use Rattle.sched_array.proofs.apply_in.Statement as stated
 use Rattle.sched_array.proofs.apply_in.Code as code
 
 -- `apply` returned y and left the records zs; `step_of` puts both together
-told : (st : Sched) (c : Call) (ts zs : List ThreadInfo) (qs qs' ps ps' ls ls' ws ws' : List ℕ) (y : Applied) (r : Stepped) → r ≡ record { applied = y; threads = zs } → Done c (outcomeMeant (y .outcome) (y .switches)) st (y .sched) (memory ts qs ps ls ws) (memory zs qs' ps' ls' ws')
-    → Done c (outcomeMeant (r .applied .outcome) (r .applied .switches)) st (r .applied .sched) (memory ts qs ps ls ws) (memory (r .threads) qs' ps' ls' ws')
+told : (st : Sched) (c : Call) (ts zs : List ThreadInfo) (qs qs' ps ps' ls ls' ws ws' : List ℕ) (y : Applied) (r : Stepped) → r ≡ record { applied = y; threads = zs } → DoneWith c (outcomeMeant (y .outcome) (y .switches)) (y .switches) st (y .sched) (memory ts qs ps ls ws) (memory zs qs' ps' ls' ws')
+    → DoneWith c (outcomeMeant (r .applied .outcome) (r .applied .switches)) (r .applied .switches) st (r .applied .sched) (memory ts qs ps ls ws) (memory (r .threads) qs' ps' ls' ws')
 told st c ts zs qs qs' ps ps' ls ls' ws ws' y r e d = rw e d
 
 module _ {M : Type 1} (𝓤 : URA M) (H : Heap 𝓤) (A : Atoms 𝓤) (W : Given 𝓤 H A) (mem : Memory → SProp 𝓤) (run : Routine → Fun 𝓤) where

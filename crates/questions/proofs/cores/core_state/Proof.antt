@@ -17,7 +17,7 @@ state-at-requires : tie.Need-state-at-requires
 state-at-requires c κs = search needs
 
 returns : tie.Need-returns
-returns c = λ ts qs ps ls ws v. ap (λ (x : Program.CoreState). coreStateMeant x) (c .state-at .ensures) ∙ core-state-is (c .before .before .before .args .s) ts qs ps ls ws v _
+returns c = λ m v r. ap (λ (x : Program.CoreState). coreStateMeant x) (c .state-at .ensures) ∙ core-state-is (c .before .before .before .args .s) m v _
 
 pub core-state-spec : {M : Type 1} → statement M
 core-state-spec = tie.close (tie.spec cast-state-at state-at-requires returns)

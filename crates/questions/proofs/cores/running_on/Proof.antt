@@ -17,7 +17,7 @@ running-in-requires c κs = search needs
 
 returns : tie.Need-returns
 unfolding runningOn
-returns c = λ ts qs ps ls ws v. c .running-in .ensures ∙ ap runner (c .before .core-state .ensures ts qs ps ls ws v)
+returns c = λ m v r. c .running-in .ensures ∙ ap runner (c .before .core-state .ensures m v r)
 
 pub running-on-spec : {M : Type 1} → statement M
 running-on-spec = tie.close (tie.spec core-state-requires running-in-requires returns)
