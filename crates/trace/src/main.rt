@@ -2,18 +2,15 @@
 // many follow. differential/program compares what is written with the original Rust.
 use model::CallAnswer;
 use model::ThreadInfo;
-use record_reads::totals::Totals;
-use record_reads::totals::no_threads;
-use record_reads::totals::totaled;
 use records::change::first_thread;
 use sched::Call;
 use sched_array::apply_in;
+use sched_array::asked_in;
 use sched_array::new_in;
 use settings::SchedConfig;
 use settings::SchedPolicy;
 use state::Capacities;
 use state::Sched;
-use summary::bits_of;
 use trace_answers::print_applied;
 use trace_answers::print_bad;
 use trace_answers::print_created;
@@ -31,8 +28,6 @@ ghost use mathlib.Core.Path.{_≡_};
 ghost use mathlib.Core.List.{List};
 ghost use Prim.Native.Nat.{ℕ, _≤_};
 ghost use lib.ListN.{length};
-ghost use Rattle.record_reads.specs.Totals.{totalsOf, TotalsFit};
-ghost use Rattle.threads.specs.Slice.{threadsIn};
 ghost use Rattle.state.specs.Memory.{memory};
 ghost use Rattle.state.specs.State.{Valid};
 
@@ -64,22 +59,6 @@ fn print_threads(threads: [ThreadInfo; 256], n: usize)
     }
 }
 
-// The sums over the first n threads.
-fn sums_of(threads: [ThreadInfo; 256], n: usize) -> Totals
-    requires { ⌜ (n ≤ 256) × TotalsFit (totalsOf (threadsIn threads n)) ⌝ }
-    ensures { λ r. ⌜ r ≡ totalsOf (threadsIn threads n) ⌝ }
-{
-    let all = threads;
-    let mut sums = no_threads();
-    let mut i = 0;
-    while i < n {
-        let t = all[i];
-        sums = totaled(sums, t);
-        i += 1;
-    }
-    sums
-}
-
 // The whole state.
 fn show(s: Sched, threads: [ThreadInfo; 256], queue: &[u32], log: &[u64], lanes: &[u64])
     requires { ⌜ ((ps : List ℕ) × Valid s (memory threads (now queue) ps (now log) (now lanes))) ⌝ }
@@ -88,9 +67,9 @@ fn show(s: Sched, threads: [ThreadInfo; 256], queue: &[u32], log: &[u64], lanes:
     print_front(s, queue);
     let n = s.threads;
     print_threads(threads, n);
-    let sums = sums_of(threads, n);
-    print_rest(s, sums, log, lanes);
-    let f = bits_of(s, sums);
+    let asked = asked_in(s, threads);
+    print_rest(s, asked.live, asked.runnable, asked.deadlocked, log, lanes);
+    let f = asked.bits;
     print_figures(f.waiting, f.response, f.turnaround, f.utilization);
 }
 

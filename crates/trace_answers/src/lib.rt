@@ -1,5 +1,6 @@
 // What the calls answer, written as lines of a trace.
-// No contract can say what is written; those here keep the positions within the buffers.
+// The `pub` functions are parts of the program `trace`. No contract can say what is written to standard output; those here keep the positions within the
+// buffers.
 use libc::STDOUT_FILENO;
 use model::CallAnswer;
 use model::JoinOutcome;
@@ -10,7 +11,6 @@ use sched::Outcome;
 use settings::Refusal;
 use switches::SwitchList;
 use switches::switch_of;
-use trace_text::out::least;
 use trace_text::out::put_number;
 use trace_text::out::put_reason;
 use trace_text::out::put_spaced;
@@ -70,11 +70,11 @@ fn put_switch(out: &mut [u8], at: usize, w: SwitchWords) -> usize
 }
 
 fn put_switches(out: &mut [u8], at: usize, list: SwitchList) -> usize
-    requires { ⌜ at ≤ length (now out) ⌝ }
+    requires { ⌜ (at ≤ length (now out)) × (list .count ≤ 8) ⌝ }
     ensures { λ r. ⌜ r ≤ length (now (out .entry)) ⌝ }
 {
     let entries = list.entries;
-    let n = least(list.count, 8);
+    let n = list.count;
     let mut to = put_text(out, at, b"switched");
     let mut i = 0;
     while i < n {
@@ -86,7 +86,7 @@ fn put_switches(out: &mut [u8], at: usize, list: SwitchList) -> usize
 }
 
 fn put_applied(out: &mut [u8], at: usize, done: Applied) -> usize
-    requires { ⌜ at ≤ length (now out) ⌝ }
+    requires { ⌜ (at ≤ length (now out)) × (done .switches .count ≤ 8) ⌝ }
     ensures { λ r. ⌜ r ≤ length (now (out .entry)) ⌝ }
 {
     let outcome = done.outcome;
@@ -114,7 +114,9 @@ fn put_created(out: &mut [u8], at: usize, answer: CallAnswer) -> usize
 }
 
 // What a call answered.
-pub fn print_applied(done: Applied) {
+pub fn print_applied(done: Applied)
+    requires { ⌜ done .switches .count ≤ 8 ⌝ }
+{
     let mut out = [0u8; 256];
     let a = put_applied(&mut out, 0, done);
     let n = put_text(&mut out, a, b"\n");

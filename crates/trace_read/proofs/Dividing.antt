@@ -21,7 +21,7 @@ pub record Divided (line : List ℕ) (all : List Number) (at k : ℕ) : Type 0 w
   pub read : fieldsOf 9 line ≡ take k all ++ fieldsOf (9 - k) (drop at line)
   pub blank : drop k all ≡ replicate (9 - k) Unreadable
 
-said-is : (x : Number) (o : Option ℕ) → numberMeant x ≡ o → x ≡ numberSaid o
+pub said-is : (x : Number) (o : Option ℕ) → numberMeant x ≡ o → x ≡ numberSaid o
 said-is (Is n) o e = ap numberSaid e
 said-is Unreadable o e = ap numberSaid e
 

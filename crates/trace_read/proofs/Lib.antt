@@ -1,1 +1,3 @@
 pub mod Dividing
+pub mod Saying
+pub mod Reading

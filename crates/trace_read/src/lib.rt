@@ -1,4 +1,5 @@
 // A trace's script: its lines read from standard input, and what each says. Nothing here has a slice of thread records.
+// The `pub` functions are parts of the program `trace`. Which bytes are read no contract can say; those here say what they mean.
 pub mod lines;
 
 use sched::Call;

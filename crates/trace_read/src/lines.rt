@@ -13,9 +13,13 @@ use state::Capacities;
 use text::Number;
 use text::numbers::read_number;
 ghost use mathlib.Core.Path.{_≡_};
+ghost use mathlib.Core.Bool.{true, not};
 ghost use Prim.Native.Nat.{_≤_, _<_};
-ghost use lib.ListN.{length};
-ghost use Rattle.trace_read.specs.Script.{fieldsOf};
+ghost use lib.Dec.{eqb};
+ghost use lib.ListN.{length, take, set};
+ghost use Rattle.text.specs.Bytes.{all};
+ghost use Rattle.trace_read.specs.Script.{fieldsOf, orZero, threadSaid, policyNumbered, lineOf, countOf, Read};
+ghost use Rattle.trace_read.specs.Parts.{isNumber, areNumbers, askedNumbers, setupIn, coreCall, pairCall, lineWith};
 
 // The next byte, 10 where the input has ended.
 fn read_byte() -> u8 {
@@ -26,13 +30,14 @@ fn read_byte() -> u8 {
 
 fn set_byte(buffer: &mut [u8], i: usize, b: u8)
     requires { ⌜ i < length (now buffer) ⌝ }
+    ensures { λ r. ⌜ now (buffer .exit) ≡ set (now (buffer .entry)) i b ⌝ }
 {
     buffer[i] = b;
 }
 
 // One line without its byte 10, read byte by byte: whoever holds the thread records then needs no input buffer. A line that is too long is cut.
 fn read_bytes(buffer: &mut [u8]) -> usize
-    ensures { λ r. ⌜ r ≤ length (now (buffer .entry)) ⌝ }
+    ensures { λ r. ⌜ (r ≤ length (now (buffer .entry))) × (all (λ b. not (eqb b 10)) (take r (now (buffer .exit))) ≡ true) ⌝ }
 {
     let mut i = 0;
     while i < buffer.len() {
@@ -66,21 +71,28 @@ pub fn fields(line: &[u8]) -> [Number; 9]
     all
 }
 
-fn number(n: Number) -> u32 {
+// 0 where there is none.
+fn number(n: Number) -> u32
+    ensures { λ r. ⌜ r ≡ orZero n ⌝ }
+{
     match n {
         Number::Is(x) => x,
         Number::Unreadable => 0,
     }
 }
 
-fn is_number(n: Number) -> bool {
+fn is_number(n: Number) -> bool
+    ensures { λ r. ⌜ r ≡ isNumber n ⌝ }
+{
     match n {
         Number::Is(_) => true,
         Number::Unreadable => false,
     }
 }
 
-fn maybe_tid(n: Number) -> OptionTid {
+fn maybe_tid(n: Number) -> OptionTid
+    ensures { λ r. ⌜ r ≡ threadSaid n ⌝ }
+{
     match n {
         Number::Is(x) => OptionTid::Some(Tid(x)),
         Number::Unreadable => OptionTid::None,
@@ -90,6 +102,7 @@ fn maybe_tid(n: Number) -> OptionTid {
 // Whether the fields 0 to n - 1 are numbers.
 fn are_numbers(f: [Number; 9], n: usize) -> bool
     requires { ⌜ n ≤ 9 ⌝ }
+    ensures { λ r. ⌜ r ≡ areNumbers (take n f) ⌝ }
 {
     let all = f;
     let mut i = 0;
@@ -103,7 +116,9 @@ fn are_numbers(f: [Number; 9], n: usize) -> bool
     true
 }
 
-fn policy_of(n: u32) -> SchedPolicy {
+fn policy_of(n: u32) -> SchedPolicy
+    ensures { λ r. ⌜ r ≡ policyNumbered n ⌝ }
+{
     match n {
         0 => SchedPolicy::Off,
         1 => SchedPolicy::Fifo,
@@ -113,7 +128,9 @@ fn policy_of(n: u32) -> SchedPolicy {
 }
 
 // 0 POLICY QUANTUM COST CORES T E S ENTRY
-fn setup_of(f: [Number; 9]) -> Setup {
+fn setup_of(f: [Number; 9]) -> Setup
+    ensures { λ r. ⌜ r ≡ setupIn f ⌝ }
+{
     let config = SchedConfig {
         policy: policy_of(number(f[1])),
         quantum: number(f[2]),
@@ -135,7 +152,9 @@ fn setup_of(f: [Number; 9]) -> Setup {
 }
 
 // The calls whose fields are one number, a core.
-fn core_call(code: u32, core: CoreId) -> Line {
+fn core_call(code: u32, core: CoreId) -> Line
+    ensures { λ r. ⌜ r ≡ coreCall code core ⌝ }
+{
     match code {
         2 => Line::Call(Call::Exit(core)),
         4 => Line::Call(Call::Retired(core)),
@@ -146,7 +165,9 @@ fn core_call(code: u32, core: CoreId) -> Line {
 }
 
 // The calls whose fields are two numbers.
-fn pair_call(code: u32, a: u32, b: u32) -> Line {
+fn pair_call(code: u32, a: u32, b: u32) -> Line
+    ensures { λ r. ⌜ r ≡ pairCall code a b ⌝ }
+{
     match code {
         3 => Line::Call(Call::Join(CoreId(a), Tid(b))),
         6 => Line::Call(Call::SetPriority(Tid(a), b)),
@@ -157,7 +178,7 @@ fn pair_call(code: u32, a: u32, b: u32) -> Line {
 
 // How many numbers each code asks for, its own among them; a thread that may be absent is none of them.
 fn asked_numbers(code: u32) -> usize
-    ensures { λ r. ⌜ r ≤ 9 ⌝ }
+    ensures { λ r. ⌜ (r ≡ askedNumbers code) × (r ≤ 9) ⌝ }
 {
     match code {
         0 => 9,
@@ -174,7 +195,9 @@ fn asked_numbers(code: u32) -> usize
     }
 }
 
-fn line_of(code: u32, f: [Number; 9]) -> Line {
+fn line_of(code: u32, f: [Number; 9]) -> Line
+    ensures { λ r. ⌜ r ≡ lineWith code f ⌝ }
+{
     let a = f[1];
     let b = f[2];
     let first = number(a);
@@ -190,7 +213,10 @@ fn line_of(code: u32, f: [Number; 9]) -> Line {
     }
 }
 
-fn parsed(line: &[u8]) -> Line {
+// What a line says.
+pub fn parsed(line: &[u8]) -> Line
+    ensures { λ r. ⌜ r ≡ lineOf (now (line .entry)) ⌝ }
+{
     let f = fields(line);
     let code = number(f[0]);
     if !are_numbers(f, asked_numbers(code)) {
@@ -199,15 +225,19 @@ fn parsed(line: &[u8]) -> Line {
     line_of(code, f)
 }
 
-// The next line of the script.
-pub fn read_line() -> Line {
+// The next line of the script. Which bytes are read is open.
+pub fn read_line() -> Line
+    ensures { λ r. ⌜ Read (λ l. r ≡ lineOf l) ⌝ }
+{
     let mut buffer = [0u8; 128];
     let n = read_bytes(&mut buffer);
     parsed(&buffer[..n])
 }
 
-// The first line of a script says how many follow.
-pub fn read_count() -> usize {
+// The first line of a script says how many follow. Which bytes are read is open.
+pub fn read_count() -> usize
+    ensures { λ r. ⌜ Read (λ l. r ≡ countOf l) ⌝ }
+{
     let mut buffer = [0u8; 128];
     let n = read_bytes(&mut buffer);
     number(read_number(&buffer[..n])) as usize

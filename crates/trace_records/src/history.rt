@@ -5,9 +5,10 @@ use model::Lane;
 use model::SchedEvent;
 use model::SchedEventKind;
 use model::Segment;
+use questions::OptionEvent;
+use questions::OptionSegment;
 use questions::lists::event;
 use questions::lists::segment;
-use record_reads::totals::Totals;
 use state::Sched;
 use trace_state::cores::put_asked;
 use trace_text::out::least;
@@ -19,6 +20,7 @@ ghost use mathlib.Core.List.{List};
 ghost use Prim.Native.Nat.{ℕ, _≤_, _<_};
 ghost use lib.ListN.{length};
 ghost use Rattle.model.specs.declared.ThreadInfo.{ThreadInfo};
+ghost use Rattle.state.specs.Asked.{Askable, theLog, theLanes};
 ghost use Rattle.state.specs.Memory.{memory};
 ghost use Rattle.state.specs.State.{Valid};
 
@@ -63,8 +65,18 @@ fn put_event(out: &mut [u8], at: usize, e: SchedEvent) -> usize
     put_text(out, d, b"\n")
 }
 
+fn put_found_event(out: &mut [u8], at: usize, found: OptionEvent) -> usize
+    requires { ⌜ at ≤ length (now out) ⌝ }
+    ensures { λ r. ⌜ r ≤ length (now (out .entry)) ⌝ }
+{
+    match found {
+        OptionEvent::None => at,
+        OptionEvent::Some(e) => put_event(out, at, e),
+    }
+}
+
 fn put_events(out: &mut [u8], at: usize, s: Sched, log: &[u64]) -> usize
-    requires { ⌜ (at ≤ length (now out)) × ((ts : List ThreadInfo) × (qs : List ℕ) × (ps : List ℕ) × (ws : List ℕ) × Valid s (memory ts qs ps (now log) ws)) ⌝ }
+    requires { ⌜ (at ≤ length (now out)) × Askable s (theLog (now log)) ⌝ }
     ensures { λ r. ⌜ r ≤ length (now (out .entry)) ⌝ }
 {
     let pos = s.log;
@@ -72,7 +84,7 @@ fn put_events(out: &mut [u8], at: usize, s: Sched, log: &[u64]) -> usize
     let mut to = at;
     let mut k = 0;
     while k < n {
-        to = put_event(out, to, event(s, log, k));
+        to = put_found_event(out, to, event(s, log, k));
         k += 1;
     }
     to
@@ -110,10 +122,19 @@ fn put_segment(out: &mut [u8], at: usize, core: u64, g: Segment) -> usize
     put_text(out, e, b"\n")
 }
 
+fn put_found_segment(out: &mut [u8], at: usize, core: u64, found: OptionSegment) -> usize
+    requires { ⌜ at ≤ length (now out) ⌝ }
+    ensures { λ r. ⌜ r ≤ length (now (out .entry)) ⌝ }
+{
+    match found {
+        OptionSegment::None => at,
+        OptionSegment::Some(g) => put_segment(out, at, core, g),
+    }
+}
+
 // One core's timeline.
 fn put_timeline(out: &mut [u8], at: usize, s: Sched, lanes: &[u64], i: usize) -> usize
-    requires { ⌜ (at ≤ length (now out)) × (i < s .cores) × (s .cores ≤ 8) × ((ts : List ThreadInfo) × (qs : List ℕ) × (ps : List ℕ) × (ls : List ℕ) × Valid s
-        (memory ts qs ps ls (now lanes))) ⌝ }
+    requires { ⌜ (at ≤ length (now out)) × (i < s .cores) × Askable s (theLanes (now lanes)) ⌝ }
     ensures { λ r. ⌜ r ≤ length (now (out .entry)) ⌝ }
 {
     let pos = s.lanes[i];
@@ -122,15 +143,14 @@ fn put_timeline(out: &mut [u8], at: usize, s: Sched, lanes: &[u64], i: usize) ->
     let mut to = at;
     let mut k = 0;
     while k < n {
-        to = put_segment(out, to, i as u64, segment(s, lanes, core, k));
+        to = put_found_segment(out, to, i as u64, segment(s, lanes, core, k));
         k += 1;
     }
     to
 }
 
 fn put_timelines(out: &mut [u8], at: usize, s: Sched, lanes: &[u64]) -> usize
-    requires { ⌜ (at ≤ length (now out)) × (s .cores ≤ 8) × ((ts : List ThreadInfo) × (qs : List ℕ) × (ps : List ℕ) × (ls : List ℕ) × Valid s
-        (memory ts qs ps ls (now lanes))) ⌝ }
+    requires { ⌜ (at ≤ length (now out)) × Askable s (theLanes (now lanes)) ⌝ }
     ensures { λ r. ⌜ r ≤ length (now (out .entry)) ⌝ }
 {
     let n = s.cores;
@@ -144,13 +164,20 @@ fn put_timelines(out: &mut [u8], at: usize, s: Sched, lanes: &[u64]) -> usize
 }
 
 // Log, timelines and questions.
-pub fn print_rest(s: Sched, sums: Totals, log: &[u64], lanes: &[u64])
-    requires { ⌜ (s .cores ≤ 8) × (s .threads ≤ 256) × ((ts : List ThreadInfo) × (qs : List ℕ) × (ps : List ℕ) × Valid s
+pub fn print_rest(
+    s: Sched,
+    live: bool,
+    runnable: bool,
+    deadlocked: bool,
+    log: &[u64],
+    lanes: &[u64],
+)
+    requires { ⌜ (s .cores ≤ 8) × ((ts : List ThreadInfo) × (qs : List ℕ) × (ps : List ℕ) × Valid s
         (memory ts qs ps (now log) (now lanes))) ⌝ }
 {
     let mut out = io::buffer();
     let a = put_events(&mut out, 0, s, log);
     let b = put_timelines(&mut out, a, s, lanes);
-    let n = put_asked(&mut out, b, s, sums);
+    let n = put_asked(&mut out, b, s, live, runnable, deadlocked);
     io::write_all(STDOUT_FILENO, &out[..n]);
 }

@@ -4,17 +4,14 @@ use model::CoreId;
 use model::CoreState;
 use model::CoreTicks;
 use model::Tid;
+use questions::OptionTicks;
 use questions::cores::core_of;
 use questions::cores::core_state;
 use questions::cores::core_ticks;
 use questions::cores::running_on;
 use questions::cores::thread_on;
-use questions::left::has_live_threads;
-use questions::left::has_runnable_threads;
-use questions::left::is_deadlocked;
 use questions::lists::ready_queue;
 use questions::next_tid;
-use record_reads::totals::Totals;
 use settings::SchedConfig;
 use state::Sched;
 use trace_text::out::put_bit;
@@ -26,6 +23,9 @@ use trace_text::out::put_tid;
 use trace_text::out::wide;
 ghost use Prim.Native.Nat.{_≤_, _<_, _^_};
 ghost use lib.ListN.{length};
+ghost use Rattle.state.specs.Asked.{Askable, Answers, nothing, theQueue};
+ghost use Rattle.trace_text.specs.Streams.{Streamed};
+ghost use Rattle.trace_state.specs.Asked.{leftText, runningText, placesText, askedText};
 
 fn put_clock(out: &mut [u8], at: usize, s: Sched) -> usize
     requires { ⌜ at ≤ length (now out) ⌝ }
@@ -103,8 +103,18 @@ fn put_ticks(out: &mut [u8], at: usize, ticks: CoreTicks) -> usize
     put_spaced(out, c, ticks.idle as u64)
 }
 
+fn put_found_ticks(out: &mut [u8], at: usize, found: OptionTicks) -> usize
+    requires { ⌜ at ≤ length (now out) ⌝ }
+    ensures { λ r. ⌜ r ≤ length (now (out .entry)) ⌝ }
+{
+    match found {
+        OptionTicks::None => at,
+        OptionTicks::Some(ticks) => put_ticks(out, at, ticks),
+    }
+}
+
 fn put_one_core(out: &mut [u8], at: usize, s: Sched, i: usize) -> usize
-    requires { ⌜ (at ≤ length (now out)) × (i < s .cores) × (s .cores ≤ 8) ⌝ }
+    requires { ⌜ (at ≤ length (now out)) × (i < s .cores) × Askable s nothing ⌝ }
     ensures { λ r. ⌜ r ≤ length (now (out .entry)) ⌝ }
 {
     let core = CoreId(i as u32);
@@ -114,12 +124,12 @@ fn put_one_core(out: &mut [u8], at: usize, s: Sched, i: usize) -> usize
     let b = put_spaced(out, a, i as u64);
     let c = put_state(out, b, state);
     let d = put_marks(out, c, s, i);
-    let e = put_ticks(out, d, ticks);
+    let e = put_found_ticks(out, d, ticks);
     put_text(out, e, b"\n")
 }
 
 fn put_cores(out: &mut [u8], at: usize, s: Sched) -> usize
-    requires { ⌜ (at ≤ length (now out)) × (s .cores ≤ 8) ⌝ }
+    requires { ⌜ (at ≤ length (now out)) × Askable s nothing ⌝ }
     ensures { λ r. ⌜ r ≤ length (now (out .entry)) ⌝ }
 {
     let n = s.cores;
@@ -134,7 +144,7 @@ fn put_cores(out: &mut [u8], at: usize, s: Sched) -> usize
 
 // Settings, queue and cores.
 pub fn print_front(s: Sched, queue: &[u32])
-    requires { ⌜ (s .queued ≤ length (now queue)) × (s .cores ≤ 8) ⌝ }
+    requires { ⌜ Askable s (theQueue (now queue)) ⌝ }
 {
     let mut out = io::buffer();
     let config = s.config;
@@ -147,8 +157,8 @@ pub fn print_front(s: Sched, queue: &[u32])
 
 // What runs on each core, and on one more, which there is not.
 fn put_running(out: &mut [u8], at: usize, s: Sched) -> usize
-    requires { ⌜ (at ≤ length (now out)) × (s .cores ≤ 8) ⌝ }
-    ensures { λ r. ⌜ r ≤ length (now (out .entry)) ⌝ }
+    requires { ⌜ Askable s nothing × (at ≤ length (now out)) ⌝ }
+    ensures { λ r. ⌜ Answers s nothing (λ d. Streamed (now (out .entry)) at (runningText d) (now (out .exit)) r) ⌝ }
 {
     let n = s.cores + 1;
     let mut to = at;
@@ -164,8 +174,8 @@ fn put_running(out: &mut [u8], at: usize, s: Sched) -> usize
 
 // The core of each thread, and of one more, which there is not.
 fn put_places(out: &mut [u8], at: usize, s: Sched) -> usize
-    requires { ⌜ (at ≤ length (now out)) × (s .cores ≤ 8) × (s .threads ≤ 256) ⌝ }
-    ensures { λ r. ⌜ r ≤ length (now (out .entry)) ⌝ }
+    requires { ⌜ Askable s nothing × (at ≤ length (now out)) ⌝ }
+    ensures { λ r. ⌜ Answers s nothing (λ d. Streamed (now (out .entry)) at (placesText d) (now (out .exit)) r) ⌝ }
 {
     let n = s.threads + 1;
     let mut to = at;
@@ -178,25 +188,32 @@ fn put_places(out: &mut [u8], at: usize, s: Sched) -> usize
 }
 
 // Whether threads are left, whether one of them can run, and whether they are deadlocked.
-fn put_left(out: &mut [u8], at: usize, sums: Totals) -> usize
+fn put_left(out: &mut [u8], at: usize, live: bool, runnable: bool, deadlocked: bool) -> usize
     requires { ⌜ at ≤ length (now out) ⌝ }
-    ensures { λ r. ⌜ r ≤ length (now (out .entry)) ⌝ }
+    ensures { λ r. ⌜ Streamed (now (out .entry)) at (leftText live runnable deadlocked) (now (out .exit)) r ⌝ }
 {
     let a = put_text(out, at, b" ");
-    let b = put_bit(out, a, has_live_threads(sums));
-    let c = put_bit(out, b, has_runnable_threads(sums));
-    put_bit(out, c, is_deadlocked(sums))
+    let b = put_bit(out, a, live);
+    let c = put_bit(out, b, runnable);
+    put_bit(out, c, deadlocked)
 }
 
-// The questions that are no field of the state.
-pub fn put_asked(out: &mut [u8], at: usize, s: Sched, sums: Totals) -> usize
-    requires { ⌜ (at ≤ length (now out)) × (s .cores ≤ 8) × (s .threads ≤ 256) ⌝ }
-    ensures { λ r. ⌜ r ≤ length (now (out .entry)) ⌝ }
+// The questions that are no field of the state. What is left to run is asked of the thread records, which are not here.
+pub fn put_asked(
+    out: &mut [u8],
+    at: usize,
+    s: Sched,
+    live: bool,
+    runnable: bool,
+    deadlocked: bool,
+) -> usize
+    requires { ⌜ Askable s nothing × (at ≤ length (now out)) ⌝ }
+    ensures { λ r. ⌜ Answers s nothing (λ d. Streamed (now (out .entry)) at (askedText d live runnable deadlocked) (now (out .exit)) r) ⌝ }
 {
     let next = next_tid(s);
     let a = put_text(out, at, b"asked");
     let b = put_spaced(out, a, next.0 as u64);
-    let c = put_left(out, b, sums);
+    let c = put_left(out, b, live, runnable, deadlocked);
     let d = put_running(out, c, s);
     let e = put_places(out, d, s);
     put_text(out, e, b"\n")

@@ -1,11 +1,30 @@
--- Where a text goes in a lent buffer.
-use Prim.Native.Nat.{ℕ, _+_, _≤_, _<_}
-use mathlib.Core.List.{List}
-use lib.ListN.{length}
-use Rattle.text.specs.Buffers.{Put}
+-- The texts that a trace's lines are made of. Numbers are in decimal (`decimal` of crates/text), an absent one is a dash (`maybe` of crates/script), and
+-- reasons have the Rust's labels (`reasonWord` there).
+use Prim.Native.Nat.{ℕ, zero, suc}
+use mathlib.Core.Bool.{Bool, true, false}
+use mathlib.Core.Option.{Option}
+use mathlib.Core.List.{List, [], _++_}
+use Rattle.text.specs.Bytes.{ascii, decimal}
+use Rattle.settings.specs.Policy.{Policy}
+use Rattle.settings.specs.Settings.{policyWord}
+use Rattle.script.specs.Report.{maybe}
 
--- Behind the others where it fits there, otherwise to the front: these are written before. What is longer than the buffer is written at once.
-pub record Placed (b : List ℕ) (at : ℕ) (t b′ : List ℕ) (r : ℕ) : Type 0 where
-  pub within : r ≤ length b
-  pub behind : at + length t ≤ length b → Put b at t b′ r
-  pub first : length b < at + length t → length t ≤ length b → Put b 0 t b′ r
+-- a space, and a number
+unfoldable pub spaced : ℕ → List ℕ
+spaced n = ascii " " ++ decimal n
+
+-- a space, and a number or a dash: a thread, a core, a tick
+unfoldable pub spacedMaybe : Option ℕ → List ℕ
+spacedMaybe o = ascii " " ++ maybe o
+
+unfoldable pub spacedPolicy : Policy → List ℕ
+spacedPolicy p = ascii " " ++ policyWord p
+
+unfoldable pub bitText : Bool → List ℕ
+bitText true = ascii "1"
+bitText false = ascii "0"
+
+-- the texts of 0 to n - 1, one behind the other
+unfoldable pub textsBelow : (ℕ → List ℕ) → (n : ℕ) → List ℕ
+textsBelow f zero = []
+textsBelow f (suc n) = textsBelow f n ++ f n

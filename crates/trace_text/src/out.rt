@@ -6,9 +6,15 @@ use model::OptionTick;
 use model::OptionTid;
 use settings::SchedPolicy;
 use text::put::put;
-ghost use Prim.Native.Nat.{_≤_};
+ghost use mathlib.Core.Path.{_≡_};
+ghost use Prim.Native.Nat.{_≤_, min};
 ghost use lib.ListN.{length};
-ghost use Rattle.trace_text.specs.Texts.{Placed};
+ghost use Rattle.text.specs.Bytes.{decimal};
+ghost use Rattle.settings.specs.Reading.{policyMeant};
+ghost use Rattle.model.specs.Reading.{optionTidMeant, optionCoreMeant, optionTickMeant, reasonMeant};
+ghost use Rattle.script.specs.Report.{reasonWord};
+ghost use Rattle.trace_text.specs.Texts.{spaced, spacedMaybe, spacedPolicy, bitText};
+ghost use Rattle.trace_text.specs.Streams.{Streamed, Placed};
 
 pub fn put_text(out: &mut [u8], at: usize, text: &[u8]) -> usize
     requires { ⌜ at ≤ length (now out) ⌝ }
@@ -34,7 +40,7 @@ fn put_first(out: &mut [u8], text: &[u8]) -> usize
 
 pub fn put_number(out: &mut [u8], at: usize, n: u64) -> usize
     requires { ⌜ at ≤ length (now out) ⌝ }
-    ensures { λ r. ⌜ r ≤ length (now (out .entry)) ⌝ }
+    ensures { λ r. ⌜ Streamed (now (out .entry)) at (decimal n) (now (out .exit)) r ⌝ }
 {
     let mut digits = [0u8; 20];
     let k = io::decimal(n, &mut digits);
@@ -44,7 +50,7 @@ pub fn put_number(out: &mut [u8], at: usize, n: u64) -> usize
 // A space and a number.
 pub fn put_spaced(out: &mut [u8], at: usize, n: u64) -> usize
     requires { ⌜ at ≤ length (now out) ⌝ }
-    ensures { λ r. ⌜ r ≤ length (now (out .entry)) ⌝ }
+    ensures { λ r. ⌜ Streamed (now (out .entry)) at (spaced n) (now (out .exit)) r ⌝ }
 {
     let a = put_text(out, at, b" ");
     put_number(out, a, n)
@@ -53,7 +59,7 @@ pub fn put_spaced(out: &mut [u8], at: usize, n: u64) -> usize
 // 1 where b is true.
 pub fn put_bit(out: &mut [u8], at: usize, b: bool) -> usize
     requires { ⌜ at ≤ length (now out) ⌝ }
-    ensures { λ r. ⌜ r ≤ length (now (out .entry)) ⌝ }
+    ensures { λ r. ⌜ Streamed (now (out .entry)) at (bitText b) (now (out .exit)) r ⌝ }
 {
     if b {
         return put_text(out, at, b"1");
@@ -64,7 +70,7 @@ pub fn put_bit(out: &mut [u8], at: usize, b: bool) -> usize
 // A space and a number, or a dash for none: a thread, a core, a tick.
 pub fn put_tid(out: &mut [u8], at: usize, tid: OptionTid) -> usize
     requires { ⌜ at ≤ length (now out) ⌝ }
-    ensures { λ r. ⌜ r ≤ length (now (out .entry)) ⌝ }
+    ensures { λ r. ⌜ Streamed (now (out .entry)) at (spacedMaybe (optionTidMeant tid)) (now (out .exit)) r ⌝ }
 {
     match tid {
         OptionTid::None => put_text(out, at, b" -"),
@@ -74,7 +80,7 @@ pub fn put_tid(out: &mut [u8], at: usize, tid: OptionTid) -> usize
 
 pub fn put_core(out: &mut [u8], at: usize, core: OptionCore) -> usize
     requires { ⌜ at ≤ length (now out) ⌝ }
-    ensures { λ r. ⌜ r ≤ length (now (out .entry)) ⌝ }
+    ensures { λ r. ⌜ Streamed (now (out .entry)) at (spacedMaybe (optionCoreMeant core)) (now (out .exit)) r ⌝ }
 {
     match core {
         OptionCore::None => put_text(out, at, b" -"),
@@ -84,7 +90,7 @@ pub fn put_core(out: &mut [u8], at: usize, core: OptionCore) -> usize
 
 pub fn put_tick(out: &mut [u8], at: usize, tick: OptionTick) -> usize
     requires { ⌜ at ≤ length (now out) ⌝ }
-    ensures { λ r. ⌜ r ≤ length (now (out .entry)) ⌝ }
+    ensures { λ r. ⌜ Streamed (now (out .entry)) at (spacedMaybe (optionTickMeant tick)) (now (out .exit)) r ⌝ }
 {
     match tick {
         OptionTick::None => put_text(out, at, b" -"),
@@ -95,7 +101,7 @@ pub fn put_tick(out: &mut [u8], at: usize, tick: OptionTick) -> usize
 // The words of the Rust's labels.
 pub fn put_reason(out: &mut [u8], at: usize, reason: LeaveReason) -> usize
     requires { ⌜ at ≤ length (now out) ⌝ }
-    ensures { λ r. ⌜ r ≤ length (now (out .entry)) ⌝ }
+    ensures { λ r. ⌜ Streamed (now (out .entry)) at (reasonWord (reasonMeant reason)) (now (out .exit)) r ⌝ }
 {
     match reason {
         LeaveReason::Exit => put_text(out, at, b"exit"),
@@ -109,7 +115,7 @@ pub fn put_reason(out: &mut [u8], at: usize, reason: LeaveReason) -> usize
 
 pub fn put_policy(out: &mut [u8], at: usize, policy: SchedPolicy) -> usize
     requires { ⌜ at ≤ length (now out) ⌝ }
-    ensures { λ r. ⌜ r ≤ length (now (out .entry)) ⌝ }
+    ensures { λ r. ⌜ Streamed (now (out .entry)) at (spacedPolicy (policyMeant policy)) (now (out .exit)) r ⌝ }
 {
     match policy {
         SchedPolicy::Off => put_text(out, at, b" off"),
@@ -121,11 +127,13 @@ pub fn put_policy(out: &mut [u8], at: usize, policy: SchedPolicy) -> usize
 
 // The smaller number: a bound for a loop's count that is known to be small.
 pub fn least(a: usize, b: usize) -> usize
-    ensures { λ r. ⌜ (r ≤ a) × (r ≤ b) ⌝ }
+    ensures { λ r. ⌜ r ≡ min a b ⌝ }
 {
     if a < b { a } else { b }
 }
 
-pub fn wide(n: u32) -> u64 {
+pub fn wide(n: u32) -> u64
+    ensures { λ r. ⌜ r ≡ n ⌝ }
+{
     n as u64
 }

@@ -11,9 +11,6 @@ Inv-loop out₀ at entries n to₀ i₀ out to i = (to ≤ length out) × (lengt
 abbrev μ-loop : tie.MeasureT-loop
 μ-loop out₀ at entries n to₀ i₀ out to i = n - i
 
-least-requires : tie.Need-least-requires Inv-loop μ-loop
-least-requires c κs = search needs
-
 slice-aggregate-put-text : tie.Need-slice-aggregate-put-text Inv-loop μ-loop
 slice-aggregate-put-text c = search needs
 
@@ -53,7 +50,6 @@ put-switches-spec =
     (tie.spec
     Inv-loop
     μ-loop
-    least-requires
     slice-aggregate-put-text
     put-text-requires
     loop-holds

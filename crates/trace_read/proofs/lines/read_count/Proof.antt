@@ -1,7 +1,9 @@
 use borrow.Author.Needs.{needs}
 use native.Mathlib.Omega.{arith}
-use mathlib.Core.Path.{sym}
+use mathlib.Core.Path.{_≡_, sym}
 use lib.Seq.{length-take-le}
+use Rattle.trace_read.specs.Script.{countOf}
+use Rattle.trace_read.proofs.Reading.{read-front, count-said}
 use Rattle.trace_read.proofs.lines.read_count.Statement.{statement}
 use Rattle.trace_read.proofs.lines.read_count.Tie as tie
 
@@ -27,7 +29,9 @@ cast-result : tie.Need-cast-result
 cast-result c = search needs
 
 returns : tie.Need-returns
-returns c = search needs
+returns c =
+    let r = c .before .before .before .before .read-bytes in
+    read-front (λ l. c .number .result ≡ countOf l) _ (r .result) (omega arith) (r .ensures .1) (count-said _ (c .before .read-number .result) (c .number .result) (c .before .read-number .ensures) (c .number .ensures))
 
 pub read-count-spec : {M : Type 1} → statement M
 read-count-spec =

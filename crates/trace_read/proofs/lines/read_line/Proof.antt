@@ -1,7 +1,9 @@
 use borrow.Author.Needs.{needs}
 use native.Mathlib.Omega.{arith}
-use mathlib.Core.Path.{sym}
+use mathlib.Core.Path.{_≡_, sym}
 use lib.Seq.{length-take-le}
+use Rattle.trace_read.specs.Script.{lineOf}
+use Rattle.trace_read.proofs.Reading.{read-front}
 use Rattle.trace_read.proofs.lines.read_line.Statement.{statement}
 use Rattle.trace_read.proofs.lines.read_line.Tie as tie
 
@@ -21,7 +23,9 @@ parsed-requires : tie.Need-parsed-requires
 parsed-requires c κs = search needs
 
 returns : tie.Need-returns
-returns c = search needs
+returns c =
+    let r = c .before .before .before .read-bytes in
+    read-front (λ l. c .parsed .result ≡ lineOf l) _ (r .result) (omega arith) (r .ensures .1) (c .parsed .ensures)
 
 pub read-line-spec : {M : Type 1} → statement M
 read-line-spec =

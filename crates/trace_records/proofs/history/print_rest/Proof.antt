@@ -24,13 +24,17 @@ slice-aggregate-put-asked : tie.Need-slice-aggregate-put-asked
 slice-aggregate-put-asked c = search needs
 
 put-asked-requires : tie.Need-put-asked-requires
-put-asked-requires c κs = search needs
+put-asked-requires c κs = ((_, c .before .before .before .before .before .before .before .before .before .before .pre .1 .3, tt), search needs)
 
 array-share-prefix-out : tie.Need-array-share-prefix-out
-array-share-prefix-out c = search needs
+array-share-prefix-out c =
+    let w = c .before .put-asked .ensures _ (c .before .before .before .before .before .before .before .before .before .before .before .before .pre .1 .3) tt in
+    omega (arith, w .within, w .long)
 
 slice-aggregate-write-all : tie.Need-slice-aggregate-write-all
-slice-aggregate-write-all c = sym (length-take-le _ _ (omega arith))
+slice-aggregate-write-all c =
+    let w = c .before .before .put-asked .ensures _ (c .before .before .before .before .before .before .before .before .before .before .before .before .before .pre .1 .3) tt in
+    sym (length-take-le _ _ (omega (arith, w .within, w .long)))
 
 write-all-requires : tie.Need-write-all-requires
 write-all-requires c κs = search needs

@@ -23,8 +23,8 @@ loop-holds c = search needs
 event-requires : tie.Need-event-requires Inv-loop μ-loop
 event-requires c κs = search needs
 
-put-event-requires : tie.Need-put-event-requires Inv-loop μ-loop
-put-event-requires c κs = search needs
+put-found-event-requires : tie.Need-put-found-event-requires Inv-loop μ-loop
+put-found-event-requires c κs = search needs
 
 add-k : tie.Need-add-k Inv-loop μ-loop
 add-k c = search needs
@@ -51,7 +51,7 @@ put-events-spec =
     least-requires
     loop-holds
     event-requires
-    put-event-requires
+    put-found-event-requires
     add-k
     loop-less
     loop-again

@@ -32,8 +32,8 @@ loop-holds c = search needs
 segment-requires : tie.Need-segment-requires Inv-loop μ-loop
 segment-requires c κs = search needs
 
-put-segment-requires : tie.Need-put-segment-requires Inv-loop μ-loop
-put-segment-requires c κs = search needs
+put-found-segment-requires : tie.Need-put-found-segment-requires Inv-loop μ-loop
+put-found-segment-requires c κs = search needs
 
 add-k : tie.Need-add-k Inv-loop μ-loop
 add-k c = search needs
@@ -63,7 +63,7 @@ put-timeline-spec =
     cast-t16
     loop-holds
     segment-requires
-    put-segment-requires
+    put-found-segment-requires
     add-k
     loop-less
     loop-again

@@ -2,6 +2,7 @@ use borrow.Author.Needs.{needs}
 use native.Mathlib.Omega.{arith}
 use mathlib.Core.Path.{sym}
 use lib.Seq.{length-take-le}
+use Rattle.trace_text.proofs.Streaming.{streamed-put, placed-first}
 use Rattle.trace_text.proofs.out.put_text.Statement.{statement}
 use Rattle.trace_text.proofs.out.put_text.Tie as tie
 
@@ -15,7 +16,7 @@ same-length : tie.Need-same-length
 same-length c = search needs
 
 returns : tie.Need-returns
-returns c = record { within = search needs; behind = λ h. c .before .before .put .ensures; first = λ h k. absurd (omega arith) }
+returns c = record { streamed = streamed-put (omega arith) (c .before .before .put .ensures); first = λ h k. absurd (omega arith) }
 
 slice-reshare-prefix-write-all : tie.Need-slice-reshare-prefix-write-all
 slice-reshare-prefix-write-all c = search needs
@@ -33,7 +34,7 @@ same-length-2 : tie.Need-same-length-2
 same-length-2 c = search needs
 
 returns-2 : tie.Need-returns-2
-returns-2 c = record { within = search needs; behind = λ h. absurd (omega arith); first = λ h k. c .before .before .put-first .ensures .behind (omega arith) }
+returns-2 c = placed-first (omega arith) (c .before .before .put-first .ensures)
 
 pub put-text-spec : {M : Type 1} → statement M
 put-text-spec =
