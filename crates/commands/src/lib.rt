@@ -1,4 +1,5 @@
 // The call lines of a script read by the program.
+// Its public functions are parts for other crates: no host calls them.
 use model::CoreId;
 use model::OptionTid;
 use model::Tid;

@@ -1,4 +1,5 @@
 // A thread leaves a core, takes a core, or both at once.
+// Its public functions are parts for other crates: no host calls them.
 pub mod states;
 
 use model::CoreId;

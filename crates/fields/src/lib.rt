@@ -1,4 +1,5 @@
 // The comma fields of a value. A wrong count of them is 6 before any number is looked at.
+// Its public functions are parts for other crates: no host calls them.
 ghost use mathlib.Core.Path.{_≡_};
 ghost use Prim.Native.Nat.{_≤_};
 ghost use lib.ListN.{length};

@@ -1,4 +1,5 @@
 // The lines of a script up to `cores=` read by the program.
+// Its public functions are parts for other crates: no host calls them.
 use rcfg::Head;
 use settings::Refusal;
 use settings::SchedConfig;

@@ -1,5 +1,6 @@
 // Phases 1 to 5 of a tick end: each core's turn, cores ascending. A core that a phase leaves alone is not stored. A loop ends by `break`: with a
 // return in each of its eight turns the program `report` took 31.0 million instructions for 40,000 lines of the smallest load, not 22.0.
+// Its public functions are parts for other crates: no host calls them.
 use dispatch::states;
 use model::CoreId;
 use model::CoreState;

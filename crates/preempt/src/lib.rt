@@ -1,5 +1,6 @@
 // Phase 6: "Under priority, while the best waiting number is strictly below the largest running number, that thread loses its core; among equals
 // the highest core."
+// Its public functions are parts for other crates: no host calls them.
 use dispatch::states;
 use model::CoreId;
 use model::CoreState;

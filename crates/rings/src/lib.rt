@@ -1,6 +1,7 @@
 // Rings of words in memory that the caller lends: the log keeps the newest events in one, each core's timeline the newest
 // segments in another. A ring takes the whole of the slice it is given, two words to an entry; where its newest entry stands
 // and how many there are is the caller's to keep, in a `RingPos`.
+// Its public functions are parts for other crates: no host calls them.
 pub mod events;
 pub mod ring;
 pub mod timeline;

@@ -1,4 +1,5 @@
 // Text as the settings and the scripts have it: lines, numbers, and texts put into lent buffers.
+// Its public functions are parts for other crates: no host calls them.
 pub mod lines;
 pub mod numbers;
 pub mod put;

@@ -1,4 +1,5 @@
 // One core's three counters, lent by &mut and charged with one tick.
+// Its public functions are parts for other crates: no host calls them.
 use model::CoreState;
 use model::CoreTicks;
 ghost use mathlib.Core.Path.{_≡_};
