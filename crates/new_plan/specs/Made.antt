@@ -1,5 +1,5 @@
 -- What `new` promises: a refused call writes nothing; a taken one leaves the definition's first state, and what every call asks.
--- Open is, and nothing else: the state that a refused call hands back; where in its ring an event stands, and the ring's slots that hold none.
+-- Open is, and nothing else: the state that a refused call hands back; of the log's ring, which is known by its events, where each stands, which words say it, and the slots that hold none.
 use Prim.Native.Nat.{ℕ, _*_, _≤_}
 use mathlib.Core.Path.{_≡_}
 use mathlib.Core.Option.{Option, none, some}

@@ -43,7 +43,7 @@ pub enum Call {
     Close(CoreId),
 }
 
-// What a call says: the refusal, or how it was taken. After `Switched` the switch list counts.
+// What a call says: the refusal, or how it was taken. After `Switched` the switch list has the entries; otherwise it has none.
 pub enum Outcome {
     Refused(Refusal),
     Taken,

@@ -1,6 +1,7 @@
 -- What every call promises: the state that the struct and the lent memory stand for, and the answer, are the definition's `step`; what a call asks
 -- holds again; a refused call changes nothing; memory behind the counts stays as it was.
--- Open is, and nothing else: the words of the lanes that moves are written to (`moveRoom`); where in its ring an entry stands, and a ring's slots that hold none; the queue's words between a shrunk queue's new length and its old one.
+-- Open is, and nothing else: the words of the lanes that moves are written to (`moveRoom`); of a ring, which is known by its entries, where each stands, which words say it, and the slots that hold none; the queue's words between a shrunk
+-- queue's new length and its old one.
 use Prim.Native.Nat.{ℕ, _*_, _≤_, max}
 use mathlib.Core.Path.{_≡_}
 use lib.ListN.{drop, getD}
@@ -27,9 +28,9 @@ pub record Same (s s' : Sched) (m m' : Memory) : Type 0 where
   pub log : m' .log ≡ m .log
   pub lanes : m' .lanes ≡ m .lanes
 
-pub record Done (c : Call) (a : Answer) (s s' : Sched) (m m' : Memory) : Type 0 where
-  pub state : meant s' m' ≡ step (meant s m) c .state
-  pub answer : a ≡ step (meant s m) c .answer
+pub record Done (call : Call) (a : Answer) (s s' : Sched) (m m' : Memory) : Type 0 where
+  pub state : meant s' m' ≡ step (meant s m) call .state
+  pub answer : a ≡ step (meant s m) call .answer
   pub valid : Valid s' m'
   pub same : (n : ℕ) → a ≡ refused n → Same s s' m m'
   pub frame : Frame s s' m m'

@@ -7,6 +7,6 @@ use Rattle.state.specs.Memory.{Memory}
 use Rattle.state.specs.Done.{Done}
 
 -- The answer a is the definition's, and so the list l is determined: its count is the length of the definition's list, 0 on a refusal and on an answer without a list, and behind it stand blank entries.
-pub record DoneWith (c : Call) (a : Answer) (l : SwitchList) (s s' : Sched) (m m' : Memory) : Type 0 where
-  pub done : Done c a s s' m m'
+pub record DoneWith (call : Call) (a : Answer) (l : SwitchList) (s s' : Sched) (m m' : Memory) : Type 0 where
+  pub done : Done call a s s' m m'
   pub list : ListFor a l

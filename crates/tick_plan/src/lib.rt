@@ -43,7 +43,7 @@ pub struct Decided {
     pub moves: usize,
 }
 
-// What the call leaves and answers. The switch list counts where the answer is `Taken`.
+// What the call leaves and answers. Refused, the switch list has no entry.
 pub struct Ticked {
     pub sched: Sched,
     pub answer: CallAnswer,
