@@ -94,9 +94,12 @@ drop-up i j l l' h e =
 pub behind-none : (T E S c : ℕ) (ts : List ThreadInfo) (qs ps ls ws : List ℕ) → Behind T E S c (memory ts qs ps ls ws) (memory ts qs ps ls ws)
 behind-none T E S c ts qs ps ls ws = record { threads = refl; queue = refl; prios = refl; log = refl; lanes = refl }
 
+pub behind-then : {n E S c : ℕ} {m m' m″ : Memory} → Behind n E S c m m' → Behind n E S c m' m″ → Behind n E S c m m″
+behind-then h k = record { threads = k .threads ∙ h .threads; queue = k .queue ∙ h .queue; prios = k .prios ∙ h .prios; log = k .log ∙ h .log; lanes = k .lanes ∙ h .lanes }
+
 module _ (T E S c : ℕ) (ts ts' ts″ : List ThreadInfo) (qs qs' qs″ ps ps' ps″ ls ls' ls″ ws ws' ws″ : List ℕ) where
   pub behind-both : Behind T E S c (memory ts qs ps ls ws) (memory ts' qs' ps' ls' ws') → Behind T E S c (memory ts' qs' ps' ls' ws') (memory ts″ qs″ ps″ ls″ ws″) → Behind T E S c (memory ts qs ps ls ws) (memory ts″ qs″ ps″ ls″ ws″)
-  behind-both h k = record { threads = k .threads ∙ h .threads; queue = k .queue ∙ h .queue; prios = k .prios ∙ h .prios; log = k .log ∙ h .log; lanes = k .lanes ∙ h .lanes }
+  behind-both = behind-then
 
 module _ (s t : Sched) (ts ts' : List ThreadInfo) (qs qs' ps ps' ls ls' ws ws' : List ℕ) where
   -- what one call leaves, behind n threads
@@ -164,7 +167,7 @@ linked-behind s m (l ∷ ls) v h =
     let one = behind-at s t (m .threads) (w .threads) (m .queue) (w .queue) (m .prios) (w .prios) (m .log) (w .log) (m .lanes) (w .lanes) (lastSched t ls .threads) (s .capacities .events) (s .capacities .segments) (s .cores)
     (omega (arith, queued-threads s m v, kept, more)) (omega (arith, queued-threads t w v', more)) more refl refl refl (h .0 .frame) in
     let others : Behind (lastSched t ls .threads) (s .capacities .events) (s .capacities .segments) (s .cores) w (lastMemory w ls) = rw (← same .events, ← same .segments, ← same .cores) (linked-behind t w ls v' (h .1)) in
-    record { threads = others .threads ∙ one .threads; queue = others .queue ∙ one .queue; prios = others .prios ∙ one .prios; log = others .log ∙ one .log; lanes = others .lanes ∙ one .lanes }
+    behind-then one others
 
 ---- `new`
 
