@@ -25,7 +25,7 @@ KNOWN = ("and_then", "in_use", "move_of", "out_of")
 def files(top, endings):
     for folder in ("crates", "docs"):
         for at, dirs, names in os.walk(os.path.join(top, folder)):
-            dirs[:] = sorted(d for d in dirs if d != "out")
+            dirs[:] = sorted(d for d in dirs if d != "out" or at.count(os.sep) != top.count(os.sep) + 2)
             for n in sorted(names):
                 if n.endswith(endings):
                     yield os.path.join(at, n)
@@ -57,6 +57,10 @@ def main():
     top = os.getcwd()
     lemmas, camel = declared(top)
     names = {d: snake(d) for d in camel}
+    # what port.py has respelled where it is declared, but not everywhere
+    for p in files(top, (".antt", ".rt", ".edit")):
+        with open(p, encoding="utf-8") as f:
+            names.update((x, snake(x)) for x in PART.findall(f.read()) if SMALL.match(x) and snake(x) in lemmas)
     imported = set()
     for p in files(top, (".antt", ".rt", ".edit")):
         with open(p, encoding="utf-8") as f:
@@ -68,7 +72,7 @@ def main():
         if old in imported:
             print(f"spell: {old} is also a word of the library")
             bad += 1
-        if new in lemmas and new not in LEMMAS + KNOWN:
+        if old in camel and new in lemmas and new not in LEMMAS + KNOWN:
             print(f"spell: {old} -> {new}: a definition or a lemma has that name")
             bad += 1
     new_names = {x: x + "_lem" for x in LEMMAS}

@@ -4,9 +4,11 @@
 // The list: thread 0 spawns cores + p others and yields in the first tick, at whose end every core takes another thread at once. Thread 0
 // then stands in the queue behind p others. Before each tick every core reports. What is printed of p, of the ticks and of the stay is
 // read off what the calls left: the list is replayed up to each tick end.
+#![tactic(auto)]
+
 ghost use Rattle.std.specs.Prelude.{◌≤◌};
 
-use libc::STDOUT_FILENO;
+use text::STDOUT_FILENO;
 use model::{OptionOut, OptionTid, SwitchWords, ThreadInfo};
 use records::change::first_thread;
 use replay_array::{ReplayedArray, replay_in};
@@ -17,7 +19,7 @@ use switches::{SwitchList, switch_of};
 
 const CALLS: usize = 3_000;
 
-#[derive(Drop)]
+#[derive(Clone, Copy)]
 struct Board {
     cores: u32,
     quantum: u32,
@@ -26,7 +28,7 @@ struct Board {
 }
 
 // What is read after a call.
-#[derive(Drop)]
+#[derive(Clone, Copy)]
 struct Seen {
     // how many stand before thread 0 in the queue; 256 where it is not there
     before: usize,
@@ -37,7 +39,7 @@ struct Seen {
     run: u64,
 }
 
-#[derive(Drop)]
+#[derive(Clone, Copy)]
 struct Found {
     ticks: u64,
     stay: u64,

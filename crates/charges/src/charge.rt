@@ -10,7 +10,7 @@ use model::{CoreState, ThreadInfo, ThreadState};
 // The threads that hold the eight cores, running or switching in, and which of the cores run them. 4,294,967,295 stands for nobody.
 // Made once for a tick, so that a thread's core is found by comparing numbers.
 // `others` says whether any core but the first is held: on a board of one core none is, and only the first is asked.
-#[derive(Drop)]
+#[derive(Clone, Copy)]
 pub struct CoreThreads {
     pub others: bool,
     pub held: [u32; 8],

@@ -1,3 +1,5 @@
 // What a tick charges one thread's record, by value.
 // Its public functions are parts for other crates: no host calls them.
+#![tactic(auto)]
+
 pub mod charge;

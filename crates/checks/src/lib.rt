@@ -1,5 +1,7 @@
 // What each call refuses, in 01's order: a ladder of early returns.
 // Its public functions are parts for other crates: no host calls them.
+#![tactic(auto)]
+
 ghost use Rattle.std.specs.Prelude.{◌≡◌, ◌≤◌};
 ghost use Rattle.std.proofs.Math.Option.{none};
 ghost use Rattle.model.specs.Calls.{is_idle, is_running};

@@ -28,7 +28,7 @@ use Rattle.state.specs.State.{core_from, packed, states_of}
 use Rattle.checks.specs.Check.{check_meant, core_refusal}
 use Rattle.checks.proofs.Answers.{taken_none}
 use Rattle.sched_marks.specs.declared.Answered.{Answered}
-use Rattle.exit_plan.specs.Exit.{byRefusal}
+use Rattle.exit_plan.specs.Exit.{by_refusal}
 use Rattle.exit_plan.proofs.Parts.{taken_is, refused-is}
 use Rattle.tick_plan.specs.declared.Charged.{Charged}
 use Rattle.tick_plan.specs.Plan.{ChargedOf}
@@ -87,11 +87,11 @@ module _ (s : Sched) (i : ℕ) (a : CallAnswer) (h : check_meant a ≡ close_ref
 
   pub core-refused : (r : CoreId) (x : Refusal) → a ≡ CallCases.Refused x → r.0 ≡ 8 → r ≡ close_core s i
   unfolding close_core
-  core-refused r x e k = let z : r.0 ≡ byRefusal (close_refusal s i) i 8 = k ∙ sym (refused-is (close_refusal s i) i 8 _ (answer-refused x e)) in λ j. record { 0 = z j }
+  core-refused r x e k = let z : r.0 ≡ by_refusal (close_refusal s i) i 8 = k ∙ sym (refused-is (close_refusal s i) i 8 _ (answer-refused x e)) in λ j. record { 0 = z j }
 
   pub core-taken : (r : CoreId) → a ≡ CallCases.Taken → r.0 ≡ i → r ≡ close_core s i
   unfolding close_core
-  core-taken r e k = let z : r.0 ≡ byRefusal (close_refusal s i) i 8 = k ∙ sym (taken_is (close_refusal s i) i 8 (answer-taken e)) in λ j. record { 0 = z j }
+  core-taken r e k = let z : r.0 ≡ by_refusal (close_refusal s i) i 8 = k ∙ sym (taken_is (close_refusal s i) i 8 (answer-taken e)) in λ j. record { 0 = z j }
 
   no_both : {B : Type 0} (n : ℕ) (o : Option ℕ) → o ≡ none → o ≡ some n → B
   no_both n o e f = absurd (let z : ◌≡◌ {A = ℕ} 0 1 = cc in omega arith)

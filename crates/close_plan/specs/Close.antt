@@ -17,7 +17,7 @@ use Rattle.state.specs.declared.Sched.{Sched}
 use Rattle.state.specs.State.{core_from, packed, states_of}
 use Rattle.checks.specs.Check.{check_meant, core_refusal}
 use Rattle.sched_marks.specs.declared.Answered.{Answered}
-use Rattle.exit_plan.specs.Exit.{byRefusal}
+use Rattle.exit_plan.specs.Exit.{by_refusal}
 use Rattle.tick_plan.specs.declared.Charged.{Charged}
 use Rattle.tick_plan.specs.Plan.{ChargeFits, ChargedOf}
 
@@ -27,7 +27,7 @@ close_refusal s i = core_refusal s i false (check 18 (leb limit_now s.now.0) non
 
 -- the core whose thread exits: one that is not there where the call is refused
 unfoldable pub close_core : Sched → (core : ℕ) → CoreId
-close_core s i = record { 0 = byRefusal (close_refusal s i) i 8 }
+close_core s i = record { 0 = by_refusal (close_refusal s i) i 8 }
 
 -- the threads that are charged, by how the exit ended
 abbrev pub if_taken : CallAnswer → ℕ → ℕ

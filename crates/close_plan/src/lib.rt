@@ -1,6 +1,8 @@
 // The parts of the call `close` that hold no thread record. "`close` does `exit` and phase 1": the first is the call `exit`, at a core that is not
 // there where `close` is refused; the second is here, but for the records.
 // Its public functions are parts for other crates: no host calls them.
+#![tactic(auto)]
+
 ghost use Rattle.std.specs.Prelude.{◌≡◌, ◌≤◌};
 ghost use Rattle.state.specs.State.{states_of};
 ghost use Rattle.checks.specs.Check.{check_meant};

@@ -1,12 +1,14 @@
 // The call lines of a script read by the program.
 // Its public functions are parts for other crates: no host calls them.
+#![tactic(auto)]
+
 use model::{CoreId, OptionTid, Tid};
 use settings::Refusal;
 
 pub mod calls;
 
 // A call as a script writes it. A thread that is spawned has entry 0.
-#[derive(Drop)]
+#[derive(Clone, Copy)]
 pub enum Command {
     Spawn(OptionTid),
     Exit(CoreId),
@@ -20,14 +22,14 @@ pub enum Command {
 }
 
 // What a call line says, or why it is refused.
-#[derive(Drop)]
+#[derive(Clone, Copy)]
 pub enum CallRead {
     Call(Command),
     Refused(Refusal),
 }
 
 // The keys of the calls.
-#[derive(Drop)]
+#[derive(Clone, Copy)]
 pub enum CallKey {
     Spawn,
     Exit,

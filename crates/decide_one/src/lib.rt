@@ -1,5 +1,7 @@
 // The decisions of a tick end on a board of one core. A crate of its own, so that an edit on `decide` is checked in less than half a minute.
 // Its public functions are parts for other crates: no host calls them.
+#![tactic(auto)]
+
 ghost use Rattle.std.specs.Prelude.{◌≡◌, List, ◌∷◌, ℕ, ◌≤◌, length, take};
 ghost use Rattle.settings.specs.Reading.{policy_meant};
 ghost use Rattle.model.specs.Types.{Priority};

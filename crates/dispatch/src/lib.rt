@@ -1,5 +1,7 @@
 // A thread leaves a core, takes a core, or both at once.
 // Its public functions are parts for other crates: no host calls them.
+#![tactic(auto)]
+
 pub mod states;
 
 ghost use Rattle.std.specs.Prelude.{◌≡◌, true, false, ◌++◌, ◌∷◌, [], ◌+◌, ◌<◌, ◌≤◌, length, set, take};

@@ -43,7 +43,7 @@ use Rattle.checks.proofs.Answers.{ok-unrefused}
 use Rattle.sched_marks.proofs.Marking.{firsts-update}
 use Rattle.updates.proofs.Reading.{same-threads}
 use Rattle.updates.proofs.Updating.{keep_same, some-record}
-use Rattle.exit_plan.specs.Exit.{exit_refusal, byRefusal, exit_tid, exit_place, exit_change, exit_threads, WakesLogged, with_exit, FinishFit, Finished}
+use Rattle.exit_plan.specs.Exit.{exit_refusal, by_refusal, exit_tid, exit_place, exit_change, exit_threads, WakesLogged, with_exit, FinishFit, Finished}
 use Rattle.exit_plan.proofs.Parts.{taken_is, refused-is, exit-core, answer-refused, answer-taken}
 
 ---- lists

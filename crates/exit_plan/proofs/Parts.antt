@@ -23,17 +23,17 @@ use Rattle.accounts.specs.Log.{woken_log}
 use Rattle.state.specs.declared.Sched.{Sched}
 use Rattle.checks.specs.Check.{check_meant, core_refusal}
 use Rattle.checks.proofs.Answers.{taken_none}
-use Rattle.exit_plan.specs.Exit.{exit_refusal, byRefusal, WakesLogged, with_exit, Finished}
+use Rattle.exit_plan.specs.Exit.{exit_refusal, by_refusal, WakesLogged, with_exit, Finished}
 
 ---- what the check answered
 
 pub tid-is : (t : Tid) (n : ℕ) → t.0 ≡ n → t ≡ record { 0 = n }
 tid-is t n e = λ i. record { 0 = e i }
 
-pub taken_is : {A : Type 0} (r : Option ℕ) (x y : A) → r ≡ none → byRefusal r x y ≡ x
+pub taken_is : {A : Type 0} (r : Option ℕ) (x y : A) → r ≡ none → by_refusal r x y ≡ x
 taken_is r x y e = rw e
 
-pub refused-is : {A : Type 0} (r : Option ℕ) (x y : A) (n : ℕ) → r ≡ some n → byRefusal r x y ≡ y
+pub refused-is : {A : Type 0} (r : Option ℕ) (x y : A) (n : ℕ) → r ≡ some n → by_refusal r x y ≡ y
 refused-is r x y n e = rw e
 
 module _ (s : Sched) (i : ℕ) (a : CallAnswer) (h : check_meant a ≡ core_refusal s i false none) where

@@ -22,22 +22,22 @@ unfoldable pub exit_refusal : Sched → (core : ℕ) → Option ℕ
 exit_refusal s i = core_refusal s i false none
 
 -- what a taken call has, or a refused one
-abbrev pub byRefusal {ℓ} : {A : Type ℓ} → Option ℕ → (taken refused : A) → A
-byRefusal none x y = x
-byRefusal (some n) x y = y
+abbrev pub by_refusal {ℓ} : {A : Type ℓ} → Option ℕ → (taken refused : A) → A
+by_refusal none x y = x
+by_refusal (some n) x y = y
 
 -- the thread of the core
 unfoldable pub exit_tid : Sched → (core : ℕ) → Tid
 exit_tid s i = record { 0 = tid_of (holder (core_state_meant (get_or (states_of s.states) i CoreStateCases.Idle))) }
 
 unfoldable pub exit_place : Sched → (core : ℕ) → ℕ
-exit_place s i = byRefusal (exit_refusal s i) (exit_tid s i).0 0
+exit_place s i = by_refusal (exit_refusal s i) (exit_tid s i).0 0
 
 unfoldable pub exit_change : Sched → (core : ℕ) → Change
-exit_change s i = byRefusal (exit_refusal s i) (Changes.Exit s.now) Changes.Keep
+exit_change s i = by_refusal (exit_refusal s i) (Changes.Exit s.now) Changes.Keep
 
 unfoldable pub exit_threads : Sched → (core : ℕ) → ℕ
-exit_threads s i = byRefusal (exit_refusal s i) s.threads 0
+exit_threads s i = by_refusal (exit_refusal s i) s.threads 0
 
 -- one wake event for each of the threads, in a ring in the first `words` words
 pub record WakesLogged (words now : ℕ) (tids : List ℕ) (ls ls' : List ℕ) (p p' : RingPos) : Type 0 where

@@ -1,6 +1,8 @@
 // The parts of the call `exit` that hold no thread record: which record is changed and how, and what the call does once the waiters are woken.
 // A refused call changes no record: it has place 0 with `Change::Keep`, and no thread is looked through for waiters.
 // Its public functions are parts for other crates: no host calls them.
+#![tactic(auto)]
+
 ghost use Rattle.std.specs.Prelude.{◌≡◌, ◌-◌, ◌<◌, ◌≤◌, length, take, drop};
 ghost use Rattle.model.specs.Phases.{holder};
 ghost use Rattle.model.specs.Calls.{tid_of};

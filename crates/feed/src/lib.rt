@@ -1,6 +1,8 @@
 // The report program's core: one line of a script fed to the scheduler on lent memory, and what stands at the end. All that is printed is put into
 // a lent buffer.
 // Its public functions are parts for other crates: no host calls them.
+#![tactic(auto)]
+
 ghost use Rattle.std.specs.Prelude.{List, ℕ, ◌≤◌, length};
 ghost use Rattle.text.specs.Buffers.{Put};
 ghost use Rattle.script.specs.Report.{finish as Report·finish};

@@ -1,6 +1,8 @@
 // One line of a script fed to the report program, without the lent thread records: what the line says, what it makes of the report, and what is
 // put into the lent buffer.
 // Its public functions are parts for other crates: no host calls them.
+#![tactic(auto)]
+
 use rcfg::Head;
 use sched::{Call, Outcome};
 use settings::{Refusal, SchedConfig};
@@ -13,7 +15,7 @@ pub mod start;
 pub mod steps;
 
 // Settings up to `cores=`, then calls. A bad call line ends the calls; a refusal before them ends the run.
-#[derive(Drop)]
+#[derive(Clone, Copy)]
 pub enum Stage {
     Heads,
     Calls,
@@ -22,7 +24,7 @@ pub enum Stage {
 }
 
 // The report program between two lines. `head` counts up to `cores=`, `sched` after it; `lines` are those read before the end.
-#[derive(Drop)]
+#[derive(Clone, Copy)]
 pub struct Report {
     pub lines: u64,
     pub stage: Stage,
@@ -31,7 +33,7 @@ pub struct Report {
 }
 
 // What a line is read by: the report without its scheduler, which is long.
-#[derive(Drop)]
+#[derive(Clone, Copy)]
 pub struct Reader {
     pub lines: u64,
     pub stage: Stage,
@@ -39,14 +41,14 @@ pub struct Reader {
 }
 
 // The report after a line, with the number of bytes that the line printed.
-#[derive(Drop)]
+#[derive(Clone, Copy)]
 pub struct Fed {
     pub report: Report,
     pub written: usize,
 }
 
 // What a line says for which the scheduler is neither made nor called. Nothing is read after the end.
-#[derive(Drop)]
+#[derive(Clone, Copy)]
 pub enum Plain {
     Nothing,
     Refused(Refusal),
@@ -54,7 +56,7 @@ pub enum Plain {
 }
 
 // What a line says in its stage.
-#[derive(Drop)]
+#[derive(Clone, Copy)]
 pub enum Line {
     Plain(Plain),
     Start { config: SchedConfig, cores: u32 },
@@ -62,7 +64,7 @@ pub enum Line {
 }
 
 // The report after a line, with what the line's number and answer are to print.
-#[derive(Drop)]
+#[derive(Clone, Copy)]
 pub struct Next {
     pub report: Report,
     pub line: u64,

@@ -1,5 +1,7 @@
 // The comma fields of a value. A wrong count of them is 6 before any number is looked at.
 // Its public functions are parts for other crates: no host calls them.
+#![tactic(auto)]
+
 ghost use Rattle.std.specs.Prelude.{◌≡◌, ◌≤◌, length};
 ghost use Rattle.text.specs.Lines.{fields, needed, perhaps, one, two};
 ghost use Rattle.fields.specs.Fields.{pair_of, pair_at, two_needed, needed_perhaps};
@@ -12,25 +14,25 @@ use text::lines::comma_at;
 use text::numbers::read_number;
 
 // What one field says, and what two say.
-#[derive(Drop)]
+#[derive(Clone, Copy)]
 pub enum NumberRead {
     Is(u32),
     Refused(Refusal),
 }
 
-#[derive(Drop)]
+#[derive(Clone, Copy)]
 pub enum MaybeRead {
     Is(OptionTid),
     Refused(Refusal),
 }
 
-#[derive(Drop)]
+#[derive(Clone, Copy)]
 pub enum NumbersRead {
     Are(u32, u32),
     Refused(Refusal),
 }
 
-#[derive(Drop)]
+#[derive(Clone, Copy)]
 pub enum NumberMaybeRead {
     Are(u32, OptionTid),
     Refused(Refusal),

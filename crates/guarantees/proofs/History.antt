@@ -52,7 +52,7 @@ flag-range (suc c) (b ∷ r) e = omega (arith, flag-range c r e)
 flag-update-same : (c : ℕ) (f : Bool → Bool) (r : List Bool) → c < length r → flag c (update c f r) ≡ f (flag c r)
 flag-update-same c f r h = rw (update-set f c r false) (get_or-set_same r c _ false h)
 
-flag-false : (c : ℕ) {A : Type 0} (r : List A) → flag c (map (λ (x : A). false) r) ≡ false
+flag-false : {A : Type 0} (c : ℕ) (r : List A) → flag c (map (λ (x : A). false) r) ≡ false
 flag-false c [] = refl
 flag-false zero (x ∷ r) = refl
 flag-false (suc c) (x ∷ r) = flag-false c r

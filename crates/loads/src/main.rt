@@ -2,7 +2,9 @@
 // numbers, one to a line: policy (0 off, 1 fifo, 2 rr, 3 priority), quantum, switch cost, cores, threads, ticks, repetitions.
 // A load is made so many times: `new`, the spawns by thread 0, and then the ticks, in each of which every core reports by `retired` and `end_tick` ends it.
 // What the last repetition left is printed. Memory is lent once: 256 threads, 512 events, 4,096 segments a core.
-use libc::{STDIN_FILENO, STDOUT_FILENO};
+#![tactic(auto)]
+
+use text::{STDIN_FILENO, STDOUT_FILENO};
 use model::{CallAnswer, ThreadInfo};
 use records::change::first_thread;
 use settings::{SchedConfig, SchedPolicy};
@@ -12,7 +14,7 @@ use text::lines::piece_end;
 use text::numbers::read_number;
 use ticking::{LoadedArray, run_load_in};
 
-#[derive(Drop)]
+#[derive(Clone, Copy)]
 struct Load {
     config: SchedConfig,
     cores: u32,
@@ -22,7 +24,7 @@ struct Load {
 }
 
 // Sums over all thread records.
-#[derive(Drop)]
+#[derive(Clone, Copy)]
 struct Sums {
     ready: u64,
     run: u64,

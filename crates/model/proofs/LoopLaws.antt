@@ -137,12 +137,15 @@ unfolding apply_moves
 apply_moves-append e now [] b k = refl
 apply_moves-append e now (m ∷ a) b k = apply_moves-append e now a b (apply_move e now m k)
 
-pub switch_list-append : (es : List SwitchEntry) (a b : List Move) → switch_list es (a ++ b) ≡ switch_list (switch_list es a) b
+switch_list-append' : (a b : List Move) (es : List SwitchEntry) → switch_list es (a ++ b) ≡ switch_list (switch_list es a) b
 unfolding switch_list
-switch_list-append es [] b = refl
-switch_list-append es (starts t ∷ a) b = switch_list-append es a b
-switch_list-append es (leaves t i r ∷ a) b = switch_list-append _ a b
-switch_list-append es (takes t i ∷ a) b = switch_list-append _ a b
+switch_list-append' [] b es = refl
+switch_list-append' (starts t ∷ a) b es = switch_list-append' a b es
+switch_list-append' (leaves t i r ∷ a) b es = switch_list-append' a b _
+switch_list-append' (takes t i ∷ a) b es = switch_list-append' a b _
+
+pub switch_list-append : (es : List SwitchEntry) (a b : List Move) → switch_list es (a ++ b) ≡ switch_list (switch_list es a) b
+switch_list-append es a b = switch_list-append' a b es
 
 ---- phase 6's victim: the largest so far, and one more core, which takes over unless it is strictly smaller
 

@@ -41,13 +41,13 @@ find_from i t (c ∷ cs) = let rest = find_from (suc i) t cs in cond (is_holder 
 unfoldable pub core_of : State → (tid : ℕ) → Option ℕ
 core_of s t = find_from 0 t s.cores
 
-unfoldable pub orEmpty {ℓ} : {A : Type ℓ} → Option (List A) → List A
-orEmpty none = []
-orEmpty (some xs) = xs
+unfoldable pub or_empty {ℓ} : {A : Type ℓ} → Option (List A) → List A
+or_empty none = []
+or_empty (some xs) = xs
 
 -- `timeline`: a core's segments, oldest first; none for a core that does not exist
 unfoldable pub timeline_of : State → (core : ℕ) → List Segment
-timeline_of s i = orEmpty (get_elem? s.accounts.timelines i)
+timeline_of s i = or_empty (get_elem? s.accounts.timelines i)
 
 ---- what is left to run
 

@@ -1,37 +1,39 @@
 // The types that the program shares with its definition. The definition itself (specs/) is written over plain numbers and
 // lists; specs/Reading.antt says which part of it each value below stands for.
+#![tactic(auto)]
+
 use settings::Refusal;
 
 // "A thread number, a core number and a tick each count something else, and one may not be given for another."
-#[derive(Drop)]
+#[derive(Clone, Copy)]
 pub struct Tid(pub u32);
 
-#[derive(Drop)]
+#[derive(Clone, Copy)]
 pub struct CoreId(pub u32);
 
-#[derive(Drop)]
+#[derive(Clone, Copy)]
 pub struct Tick(pub u64);
 
-#[derive(Drop)]
+#[derive(Clone, Copy)]
 pub enum OptionTid {
     None,
     Some(Tid),
 }
 
-#[derive(Drop)]
+#[derive(Clone, Copy)]
 pub enum OptionCore {
     None,
     Some(CoreId),
 }
 
-#[derive(Drop)]
+#[derive(Clone, Copy)]
 pub enum OptionTick {
     None,
     Some(Tick),
 }
 
 // "A core is idle, switching (thread, ticks left) or running (thread, slice)."
-#[derive(Drop)]
+#[derive(Clone, Copy)]
 pub enum CoreState {
     Idle,
     Switching { tid: Tid, left: u32 },
@@ -39,7 +41,7 @@ pub enum CoreState {
 }
 
 // One core's three counters. None passes `now`, which fits 32 bits; the state is copied in each call, so they take no more.
-#[derive(Drop)]
+#[derive(Clone, Copy)]
 pub struct CoreTicks {
     pub busy: u32,
     pub switching: u32,
@@ -47,7 +49,7 @@ pub struct CoreTicks {
 }
 
 // What filled a stretch of a core's timeline.
-#[derive(Drop)]
+#[derive(Clone, Copy)]
 pub enum Lane {
     Idle,
     Switch(Tid),
@@ -55,7 +57,7 @@ pub enum Lane {
 }
 
 // A stretch of one core's timeline, ticks start..end.
-#[derive(Drop)]
+#[derive(Clone, Copy)]
 pub struct Segment {
     pub lane: Lane,
     pub start: Tick,
@@ -63,7 +65,7 @@ pub struct Segment {
 }
 
 // Why a thread left its core.
-#[derive(Drop)]
+#[derive(Clone, Copy)]
 pub enum LeaveReason {
     Exit,
     Block,
@@ -74,7 +76,7 @@ pub enum LeaveReason {
 }
 
 // Where a thread is in its life.
-#[derive(Drop)]
+#[derive(Clone, Copy)]
 pub enum ThreadState {
     Ready,
     Running(CoreId),
@@ -83,21 +85,21 @@ pub enum ThreadState {
 }
 
 // When a thread last left a core, which core, and why: a record where the Rust has a tuple.
-#[derive(Drop)]
+#[derive(Clone, Copy)]
 pub struct LastLeave {
     pub tick: Tick,
     pub core: CoreId,
     pub reason: LeaveReason,
 }
 
-#[derive(Drop)]
+#[derive(Clone, Copy)]
 pub enum OptionLeave {
     None,
     Some(LastLeave),
 }
 
 // What a thread did with its time.
-#[derive(Drop)]
+#[derive(Clone, Copy)]
 pub struct ThreadStats {
     pub arrival: Tick,
     pub first_run: OptionTick,
@@ -111,7 +113,7 @@ pub struct ThreadStats {
 }
 
 // One thread as the scheduler sees it.
-#[derive(Drop)]
+#[derive(Clone, Copy)]
 pub struct ThreadInfo {
     pub tid: Tid,
     pub parent: OptionTid,
@@ -124,7 +126,7 @@ pub struct ThreadInfo {
     pub stats: ThreadStats,
 }
 
-#[derive(Drop)]
+#[derive(Clone, Copy)]
 pub enum SchedEventKind {
     Spawn { parent: OptionTid },
     Dispatch { core: CoreId },
@@ -133,7 +135,7 @@ pub enum SchedEventKind {
     Priority { priority: u32 },
 }
 
-#[derive(Drop)]
+#[derive(Clone, Copy)]
 pub struct SchedEvent {
     pub tick: Tick,
     pub tid: Tid,
@@ -141,20 +143,20 @@ pub struct SchedEvent {
 }
 
 // The thread that leaves in a switch entry: a record where the Rust has a tuple.
-#[derive(Drop)]
+#[derive(Clone, Copy)]
 pub struct SwitchOut {
     pub tid: Tid,
     pub reason: LeaveReason,
 }
 
-#[derive(Drop)]
+#[derive(Clone, Copy)]
 pub enum OptionOut {
     None,
     Some(SwitchOut),
 }
 
 // "One entry per core touched ..: thread out with reason, thread in."
-#[derive(Drop)]
+#[derive(Clone, Copy)]
 pub struct Switch {
     pub core: CoreId,
     pub out: OptionOut,
@@ -163,7 +165,7 @@ pub struct Switch {
 
 // The same in numbers, as a switch list keeps it: `reason` is 0 where nobody leaves, `taken` where nobody comes. A list is copied in each call, and a copy
 // of an enum moves the bytes behind its tag one by one.
-#[derive(Drop)]
+#[derive(Clone, Copy)]
 pub struct SwitchWords {
     pub core: CoreId,
     pub left: Tid,
@@ -173,7 +175,7 @@ pub struct SwitchWords {
 }
 
 // How a `join` turned out.
-#[derive(Drop)]
+#[derive(Clone, Copy)]
 pub enum JoinOutcome {
     Wait,
     Done,
@@ -181,19 +183,19 @@ pub enum JoinOutcome {
 }
 
 // The answers of the calls. Each is what the call says when it is taken, or the refusal.
-#[derive(Drop)]
+#[derive(Clone, Copy)]
 pub enum CallAnswer {
     Taken,
     Refused(Refusal),
 }
 
-#[derive(Drop)]
+#[derive(Clone, Copy)]
 pub enum SpawnAnswer {
     Spawned(Tid),
     Refused(Refusal),
 }
 
-#[derive(Drop)]
+#[derive(Clone, Copy)]
 pub enum JoinAnswer {
     Joined(JoinOutcome),
     Refused(Refusal),

@@ -1,5 +1,7 @@
 // The parts of the call `new` that hold no thread record: what it refuses, the first state, and what is written of priorities and log.
 // Its public functions are parts for other crates: no host calls them.
+#![tactic(auto)]
+
 ghost use Rattle.std.specs.Prelude.{◌≡◌, ◌||◌, [], ◌∷◌, ◌++◌, ◌*◌, ◌<◌, ◌≤◌, length, take};
 ghost use Rattle.model.specs.Accounting.{newest};
 ghost use Rattle.rings.specs.Ring.{RingOK, capacity};
@@ -16,7 +18,7 @@ use settings::{Refusal, SchedConfig};
 use state::{Capacities, CoreWords, Sched, others_idle};
 
 // The state that `new` leaves, with its answer.
-#[derive(Drop)]
+#[derive(Clone, Copy)]
 pub struct Created {
     pub sched: Sched,
     pub answer: CallAnswer,

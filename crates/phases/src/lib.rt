@@ -1,6 +1,8 @@
 // Phases 1 to 5 of a tick end: each core's turn, cores ascending. A core that a phase leaves alone is not stored. A loop ends by `break`: with a
 // return in each of its eight turns the program `report` took 31.0 million instructions for 40,000 lines of the smallest load, not 22.0.
 // Its public functions are parts for other crates: no host calls them.
+#![tactic(auto)]
+
 ghost use Rattle.std.specs.Prelude.{Bool, List, ℕ, ◌+◌, ◌*◌, ◌<◌, ◌≤◌, length, get_or, take};
 ghost use Rattle.model.specs.Types.{Move};
 ghost use Rattle.model.specs.Phases;

@@ -1,6 +1,8 @@
 // Phase 6: "Under priority, while the best waiting number is strictly below the largest running number, that thread loses its core; among equals
 // the highest core."
 // Its public functions are parts for other crates: no host calls them.
+#![tactic(auto)]
+
 ghost use Rattle.std.specs.Prelude.{◌≡◌, Bool, List, ℕ, ◌+◌, ◌*◌, ◌<◌, ◌≤◌, length, take};
 ghost use Rattle.std.proofs.Math.Option.{none};
 ghost use Rattle.settings.specs.Reading.{policy_meant};
@@ -19,7 +21,7 @@ use queue::pick;
 use settings::SchedPolicy;
 
 // The thread that loses its core, and the place in the queue of the one that takes it.
-#[derive(Drop)]
+#[derive(Clone, Copy)]
 pub enum NextPreemption {
     Nobody,
     Of { core: CoreId, tid: Tid, at: usize },

@@ -16,7 +16,7 @@ use Rattle.model.specs.Types.{Core, CoreState, Idle, State}
 use Rattle.model.specs.Calls.{core_at, core_state_of, idle_core}
 use Rattle.model.specs.Phases.{holder}
 use Rattle.model.specs.Accounting.{is_holder}
-use Rattle.model.specs.Questions.{next_tid, find_from, core_of, orEmpty, timeline_of}
+use Rattle.model.specs.Questions.{next_tid, find_from, core_of, or_empty, timeline_of}
 use Rattle.model.specs.Reading.{core_state_meant, core_ticks_meant, thread_meant}
 use Rattle.model.proofs.LoopLaws.{core_at-get_d}
 use Rattle.state.specs.declared.Sched.{Sched}
@@ -171,11 +171,11 @@ module _ (s : Sched) (ls : List ℕ) (a : Askable s (the_log ls)) where
 
 module _ (s : Sched) (m : Memory) (i : ℕ) where
   pub timeline-at : i < s.cores → timeline_of (meant s m) i ≡ segments_in (lane_words s.capacities.segments i m.lanes) (get_or s.lanes i no_pos)
-  unfolding timeline_of meant_at orEmpty
+  unfolding timeline_of meant_at or_empty
   timeline-at h = rw (get_elem-firsts (λ (j : ℕ). segments_in (lane_words s.capacities.segments j m.lanes) (get_or s.lanes j no_pos)) s.cores i h)
 
   pub timeline-behind : s.cores ≤ i → timeline_of (meant s m) i ≡ []
-  unfolding timeline_of meant_at orEmpty
+  unfolding timeline_of meant_at or_empty
   timeline-behind h = rw (get_elem-behind (λ (j : ℕ). segments_in (lane_words s.capacities.segments j m.lanes) (get_or s.lanes j no_pos)) s.cores i h)
 
   module _ (v : Valid s m) (h : i < s.cores) where

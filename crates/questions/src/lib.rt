@@ -1,5 +1,7 @@
 // The read-only questions, which refuse nothing. Each is what the definition says of the state that the struct and the lent memory stand for.
 // All of them are for hosts. Those that read the lent thread records stand in `thread_questions`.
+#![tactic(auto)]
+
 pub mod cores;
 pub mod labels;
 pub mod lists;
@@ -16,19 +18,19 @@ use settings::SchedConfig;
 use state::Sched;
 
 // Answers that may be absent: a core that does not exist, an entry behind the end.
-#[derive(Drop)]
+#[derive(Clone, Copy)]
 pub enum OptionTicks {
     None,
     Some(CoreTicks),
 }
 
-#[derive(Drop)]
+#[derive(Clone, Copy)]
 pub enum OptionEvent {
     None,
     Some(SchedEvent),
 }
 
-#[derive(Drop)]
+#[derive(Clone, Copy)]
 pub enum OptionSegment {
     None,
     Some(Segment),

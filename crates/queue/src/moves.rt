@@ -31,7 +31,7 @@ pub fn push_move(out: &mut [u64], count: &mut usize, code: u64, core: CoreId, ti
     *count = n + 1;
 }
 
-#[derive(Drop)]
+#[derive(Clone, Copy)]
 pub enum Move {
     Leaves {
         tid: Tid,

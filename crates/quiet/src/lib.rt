@@ -2,6 +2,8 @@
 // runs the phases nor packs the core states anew.
 // With one core the seven others are left out, not tested one by one.
 // Its public functions are parts for other crates: no host calls them.
+#![tactic(auto)]
+
 ghost use Rattle.std.specs.Prelude.{◌≡◌, true, false, ◌||◌, ℕ, ◌<◌, ◌≤◌, leb, get_or};
 ghost use Rattle.settings.specs.Reading.{policy_meant};
 ghost use Rattle.model.specs.Reading.{core_state_meant};

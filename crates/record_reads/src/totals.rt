@@ -7,7 +7,7 @@ ghost use Rattle.record_reads.specs.Totals.{flag, add_totals, totals_of, TotalsF
 
 use model::{OptionTick, ThreadInfo, ThreadState, Tick};
 
-#[derive(Drop)]
+#[derive(Clone, Copy)]
 pub struct Totals {
     pub threads: u64,
     pub finished: u64,

@@ -12,7 +12,7 @@ use model::{
     ThreadState, ThreadStats, Tick, Tid,
 };
 
-#[derive(Drop)]
+#[derive(Clone, Copy)]
 pub enum Change {
     Exit {
         now: Tick,

@@ -1,3 +1,5 @@
 // One thread's record by value: every way in which it changes. Nothing here holds a reference to a record.
 // Its public functions are parts for other crates: no host calls them.
+#![tactic(auto)]
+
 pub mod change;

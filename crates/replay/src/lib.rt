@@ -1,4 +1,6 @@
 // A list of calls, made one after the other on a fresh scheduler. Its contract is the round robin guarantee over lists of calls.
+#![tactic(auto)]
+
 ghost use Rattle.std.specs.Prelude.{◌≡◌, ◌+◌, ◌*◌, ◌<◌, ◌≤◌, min, length, take};
 ghost use Rattle.model.specs.Calls.{ok};
 ghost use Rattle.state.specs.Memory.{lent};
@@ -18,7 +20,7 @@ use state::{Capacities, Sched};
 use switches::{SwitchList, no_switches};
 
 // What `new` answered, the answer to the last call made, and what it left.
-#[derive(Drop)]
+#[derive(Clone, Copy)]
 pub struct Replayed {
     pub made: CallAnswer,
     pub sched: Sched,

@@ -1,4 +1,6 @@
 // `replay::replay` for a host that holds the thread records in an array of its own: 256 records by value. Whoever calls it lends no record.
+#![tactic(auto)]
+
 ghost use Rattle.std.specs.Prelude.{◌≡◌};
 ghost use Rattle.state.specs.Memory.{memory};
 ghost use Rattle.replay.specs.Replay.{ReplayDone};
@@ -9,7 +11,7 @@ use settings::SchedConfig;
 use state::Capacities;
 
 // What the calls leave, with the records.
-#[derive(Drop)]
+#[derive(Clone, Copy)]
 pub struct ReplayedArray {
     pub replayed: Replayed,
     pub threads: [ThreadInfo; 256],

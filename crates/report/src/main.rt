@@ -1,4 +1,6 @@
 // The report program: a script on standard input, the report on standard output. Both go through in blocks, so that memory is bounded.
+#![tactic(auto)]
+
 ghost use Rattle.std.specs.Prelude.{◌≡◌, length};
 ghost use Rattle.report.specs.Running.{Runnable, Finished};
 

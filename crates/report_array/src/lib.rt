@@ -1,4 +1,6 @@
 // The report on a script in memory for a host that lends nothing but the buffer: the scheduler's memory stands in arrays by value.
+#![tactic(auto)]
+
 ghost use Rattle.std.specs.Prelude.{◌≡◌};
 ghost use Rattle.rcfg.specs.Reading.{laid_meant};
 ghost use Rattle.feed_plan.specs.Meant.{Roomy};

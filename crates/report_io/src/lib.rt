@@ -1,6 +1,8 @@
 // The report program's input and output, in blocks, without the lent thread records: the next line of the script, and what is printed. One lent buffer holds
 // a block of the script and, behind it, a block of the report.
 // Its public functions are parts for other crates: no host calls them.
+#![tactic(auto)]
+
 ghost use Rattle.std.specs.Prelude.{◌≡◌};
 ghost use Rattle.report_io.specs.Marks.{marked_report};
 
@@ -19,7 +21,7 @@ pub const MAX_TURNS: u64 = 1_000_000_000_001;
 
 // Where the program is in its two blocks: the script's bytes from `at` to `end` are still to be taken, `pending` bytes of the report are still to be written.
 // `turn` counts the lines taken; it is MAX_TURNS where none follows.
-#[derive(Drop)]
+#[derive(Clone, Copy)]
 pub struct Place {
     pub at: usize,
     pub end: usize,
@@ -30,21 +32,21 @@ pub struct Place {
 }
 
 // What lines `retired=` that follow each other make of the progressed marks, and how many they are.
-#[derive(Drop)]
+#[derive(Clone, Copy)]
 pub struct Ahead {
     pub progressed: [bool; 8],
     pub count: usize,
 }
 
 // What such lines change of a report. The rest of it, which is long, is not copied for them.
-#[derive(Drop)]
+#[derive(Clone, Copy)]
 pub struct Marked {
     pub lines: u64,
     pub progressed: [bool; 8],
 }
 
 // The next line, as it reads in the report's stage, and where the program is then. `marked` is the report's where lines `retired=` were taken before it.
-#[derive(Drop)]
+#[derive(Clone, Copy)]
 pub struct Upcoming {
     pub line: Line,
     pub place: Place,

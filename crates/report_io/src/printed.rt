@@ -9,7 +9,7 @@ use crate::marks::{lines_ahead, marked_by, place_after, reader_after, unmarked};
 use crate::{BLOCK, Place, Upcoming};
 use feed_plan::saying::put_text;
 use feed_plan::{Next, Report, Stage};
-use libc::STDOUT_FILENO;
+use text::STDOUT_FILENO;
 
 // What is still to be written.
 fn pending_part(p: Place, blocks: &[u8]) -> &[u8]

@@ -1,5 +1,7 @@
 // A whole script in memory, without the lent thread records: its lines, the room that its report takes, and where reading and printing stand.
 // Its public functions are parts for other crates: no host calls them.
+#![tactic(auto)]
+
 ghost use Rattle.std.specs.Prelude.{◌≡◌, cond, List, ℕ, ◌+◌, ◌*◌, ◌-◌, ◌<◌, ◌≤◌, ltb, length, take, drop};
 ghost use Rattle.text.specs.Lines.{cut};
 ghost use Rattle.model.specs.declared.ThreadInfo.{ThreadInfo};
@@ -17,7 +19,7 @@ use settings::Refusal;
 use text::lines::piece_end;
 
 // The report after some lines: what is read next begins at `from`, and what is printed next is put at `at`.
-#[derive(Drop)]
+#[derive(Clone, Copy)]
 pub struct Progress {
     pub report: Report,
     pub from: usize,
@@ -25,7 +27,7 @@ pub struct Progress {
 }
 
 // What the next line says, and where it ends.
-#[derive(Drop)]
+#[derive(Clone, Copy)]
 pub struct Reached {
     pub line: Line,
     pub end: usize,

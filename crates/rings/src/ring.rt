@@ -8,7 +8,7 @@ ghost use Rattle.rings.specs.Ring.{next_slot, slot_before, capacity, entries_in,
 use crate::RingPos;
 
 // The two words of an entry.
-#[derive(Drop)]
+#[derive(Clone, Copy)]
 pub struct Entry {
     pub first: u64,
     pub second: u64,

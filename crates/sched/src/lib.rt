@@ -1,5 +1,7 @@
 // Any call applied to the scheduler: one function for lists of calls, scripts and traces.
 // `apply` is for hosts; what `answers` has are parts.
+#![tactic(auto)]
+
 pub mod answers;
 
 ghost use Rattle.state.specs.Memory.{lent};
@@ -20,7 +22,7 @@ use state::Sched;
 use switches::SwitchList;
 
 // A call with its arguments.
-#[derive(Drop)]
+#[derive(Clone, Copy)]
 pub enum Call {
     Spawn(OptionTid, u32),
     Exit(CoreId),
@@ -35,7 +37,7 @@ pub enum Call {
 }
 
 // What a call says: the refusal, or how it was taken. After `Switched` the switch list has the entries; otherwise it has none.
-#[derive(Drop)]
+#[derive(Clone, Copy)]
 pub enum Outcome {
     Refused(Refusal),
     Taken,
@@ -45,7 +47,7 @@ pub enum Outcome {
 }
 
 // The state that a call leaves, with what it says.
-#[derive(Drop)]
+#[derive(Clone, Copy)]
 pub struct Applied {
     pub sched: Sched,
     pub outcome: Outcome,

@@ -1,5 +1,7 @@
 // The calls, and the questions about the threads, for a host that holds the thread records in an array of its own: 256 records by value. Whoever calls these
 // lends no record.
+#![tactic(auto)]
+
 ghost use Rattle.std.specs.Prelude.{◌≡◌};
 ghost use Rattle.state.specs.Memory.{memory};
 ghost use Rattle.state.specs.State.{Valid};
@@ -19,21 +21,21 @@ use summary::FigureBits;
 use thread_questions::{bits_of, has_live_threads, has_runnable_threads, is_deadlocked};
 
 // What a call leaves, with the records.
-#[derive(Drop)]
+#[derive(Clone, Copy)]
 pub struct Stepped {
     pub applied: Applied,
     pub threads: [ThreadInfo; 256],
 }
 
 // What `new` leaves, with the records.
-#[derive(Drop)]
+#[derive(Clone, Copy)]
 pub struct Started {
     pub created: Created,
     pub threads: [ThreadInfo; 256],
 }
 
 // What is left to run, and the bit patterns of the summary's figures.
-#[derive(Drop)]
+#[derive(Clone, Copy)]
 pub struct Asked {
     pub live: bool,
     pub runnable: bool,

@@ -1,4 +1,6 @@
 // The call `exit`.
+#![tactic(auto)]
+
 ghost use Rattle.std.specs.Prelude.{List, ℕ};
 ghost use Rattle.model.specs.Reading.{call_answer_meant};
 ghost use Rattle.model.specs.Calls as Calls;

@@ -1,4 +1,6 @@
 // The call `force_switch`: what `force_plan` decides, and the thread records in the lent slice.
+#![tactic(auto)]
+
 ghost use Rattle.model.specs.Reading.{option_tid_meant};
 ghost use Rattle.model.specs.Calls;
 ghost use Rattle.state.specs.Memory.{lent};

@@ -1,5 +1,7 @@
 // The call `new`.
 // `new` is for hosts; `set_first` is a part.
+#![tactic(auto)]
+
 ghost use Rattle.std.specs.Prelude.{◌≡◌, ◌≤◌, length};
 ghost use Rattle.walkkit.specs.Firsts.{firsts};
 ghost use Rattle.state.specs.Memory.{lent};

@@ -8,13 +8,13 @@ use thread_plan::join::JoinDecided;
 use thread_plan::priority::Decided;
 use thread_plan::spawn::SpawnDecided;
 
-#[derive(Drop)]
+#[derive(Clone, Copy)]
 pub struct SpawnAnswered {
     pub sched: Sched,
     pub answer: SpawnAnswer,
 }
 
-#[derive(Drop)]
+#[derive(Clone, Copy)]
 pub struct JoinAnswered {
     pub sched: Sched,
     pub answer: JoinAnswer,

@@ -1,4 +1,6 @@
 // The call `end_tick`: what `tick_plan` decides, and the thread records in the lent slice.
+#![tactic(auto)]
+
 ghost use Rattle.model.specs.Calls;
 ghost use Rattle.state.specs.Memory.{lent};
 ghost use Rattle.state.specs.State.{Valid};

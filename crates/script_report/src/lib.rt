@@ -1,5 +1,7 @@
 // The report program on a script in memory.
 // Its public functions are parts for other crates: no host calls them.
+#![tactic(auto)]
+
 ghost use Rattle.std.specs.Prelude.{List, ℕ};
 ghost use Rattle.text.specs.Buffers.{Put};
 ghost use Rattle.script.specs.Report.{finish};

@@ -1,5 +1,7 @@
 // The settings: policies, their words, the three settings with their limits, and the numbers of all refusals.
 // What a policy and the settings say of themselves is for hosts; `policy_of` and `is_beyond` are parts.
+#![tactic(auto)]
+
 ghost use Rattle.std.specs.Prelude.{◌≡◌};
 ghost use Rattle.settings.specs.Settings.{defaults};
 ghost use Rattle.settings.specs.Reading.{settings_meant, refusal_number};
@@ -8,7 +10,7 @@ pub mod numbers;
 pub mod policy;
 
 // How the threads share the cores.
-#[derive(Drop)]
+#[derive(Clone, Copy)]
 pub enum SchedPolicy {
     Off,
     Fifo,
@@ -17,7 +19,7 @@ pub enum SchedPolicy {
 }
 
 // The scheduler's settings.
-#[derive(Drop)]
+#[derive(Clone, Copy)]
 pub struct SchedConfig {
     pub policy: SchedPolicy,
     // Ticks a thread runs before round robin hands its core to the next.
@@ -47,7 +49,7 @@ impl SchedConfig {
 }
 
 // Every refusal that the paper numbers; specs/Reading.antt gives each its number.
-#[derive(Drop)]
+#[derive(Clone, Copy)]
 pub enum Refusal {
     SettingRange,
     CoreCount,
@@ -96,14 +98,14 @@ impl Refusal {
 }
 
 // A word of at most 11 bytes: the first `len` of `bytes`.
-#[derive(Drop)]
+#[derive(Clone, Copy)]
 pub struct Word {
     pub bytes: [u8; 11],
     pub len: usize,
 }
 
 // The policy that a word names.
-#[derive(Drop)]
+#[derive(Clone, Copy)]
 pub enum PolicyFound {
     Is(SchedPolicy),
     Unknown,

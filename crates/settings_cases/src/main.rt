@@ -1,6 +1,8 @@
 // Runs the examples of the settings. Standard input holds at most 65,536 bytes: for each case its length in decimal, ended by
 // byte 10, and then its bytes. What each case reads as is printed, and settings are written, refused a short buffer and read back.
-use libc::{STDIN_FILENO, STDOUT_FILENO};
+#![tactic(auto)]
+
+use text::{STDIN_FILENO, STDOUT_FILENO};
 use rcfg::reading::from_rcfg;
 use rcfg::writing::{to_rcfg, write_and_read};
 use rcfg::{Settled, Written};

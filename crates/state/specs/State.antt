@@ -113,9 +113,9 @@ abbrev pub meant : Sched → Memory → State
 meant s m = meant_at s m.threads m.queue m.log m.lanes
 
 -- the memory holds what the capacities promise
-pub record Sizes (capacities : Capacities) (core_count threadCount queued : ℕ) (m : Memory) : Type 0 where
+pub record Sizes (capacities : Capacities) (core_count thread_count queued : ℕ) (m : Memory) : Type 0 where
   pub cores : core_count ≤ 8
-  pub in_use : threadCount ≤ capacities.threads
+  pub in_use : thread_count ≤ capacities.threads
   pub waiting : queued ≤ capacities.threads
   pub threads : capacities.threads ≤ length m.threads
   pub queue : capacities.threads ≤ length m.queue

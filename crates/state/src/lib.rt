@@ -1,6 +1,8 @@
 // The scheduler's state between calls: one struct by value, beside the memory that the host lends. specs/State.antt says which state of the
 // definition it stands for, together with that memory.
 // Its public functions are parts for other crates: no host calls them.
+#![tactic(auto)]
+
 ghost use Rattle.std.specs.Prelude.{◌≡◌, get_or};
 ghost use Rattle.model.specs.declared.CoreState.TheVariants;
 ghost use Rattle.state.specs.State.{words_of, packed, state_in, states_of, others_idle};
@@ -11,7 +13,7 @@ use settings::SchedConfig;
 
 // A core state in three words: idle, switching or running by `kind`, the thread, and its `left` or `slice`. A copy of an enum moves the bytes behind its tag
 // one by one, and the state is copied in each call.
-#[derive(Drop)]
+#[derive(Clone, Copy)]
 pub struct CoreWords {
     pub kind: u32,
     pub tid: u32,
@@ -19,7 +21,7 @@ pub struct CoreWords {
 }
 
 // The core states between calls: an array of enums can't be a field (docs/DECISIONS.md). In the phases they are an array of eight.
-#[derive(Drop)]
+#[derive(Clone, Copy)]
 pub struct Eight {
     pub c0: CoreWords,
     pub c1: CoreWords,
@@ -32,14 +34,14 @@ pub struct Eight {
 }
 
 // T, E and S, as `new` was given them.
-#[derive(Drop)]
+#[derive(Clone, Copy)]
 pub struct Capacities {
     pub threads: usize,
     pub events: usize,
     pub segments: usize,
 }
 
-#[derive(Drop)]
+#[derive(Clone, Copy)]
 pub struct Sched {
     pub config: SchedConfig,
     pub capacities: Capacities,

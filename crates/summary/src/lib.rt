@@ -1,5 +1,7 @@
 // The summary: exact sums over threads and cores, and the four figures, each one division of two sums.
 // `sums_from`, `figures_from` and `bits_from` are parts: they take the sums over the thread records, which `thread_questions` makes of the records.
+#![tactic(auto)]
+
 ghost use Rattle.std.specs.Prelude.{◌≡◌, List, ℕ, ◌+◌, ◌<◌, ◌≤◌, ◌^◌, get_or};
 ghost use Rattle.std.specs.Float.{binary64};
 ghost use Rattle.std.specs.Float.Ieee.{to_bits};
@@ -17,7 +19,7 @@ use record_reads::totals::Totals;
 use state::Sched;
 
 // The exact sums that the report prints, and the time of the summary.
-#[derive(Drop)]
+#[derive(Clone, Copy)]
 pub struct Sums {
     pub threads: u64,
     pub finished: u64,
@@ -34,7 +36,7 @@ pub struct Sums {
 
 // "Four binary64 figures in one record: means of ready ticks (all threads), response (those with a first run), turnaround (finished), and
 // utilization."
-#[derive(Drop)]
+#[derive(Clone, Copy)]
 pub struct SchedSummary {
     pub avg_waiting: f64,
     pub avg_response: f64,
@@ -43,7 +45,7 @@ pub struct SchedSummary {
 }
 
 // The bit patterns of the four figures.
-#[derive(Drop)]
+#[derive(Clone, Copy)]
 pub struct FigureBits {
     pub waiting: u64,
     pub response: u64,
@@ -51,7 +53,7 @@ pub struct FigureBits {
     pub utilization: u64,
 }
 
-#[derive(Drop)]
+#[derive(Clone, Copy)]
 struct CoreTotals {
     busy: u64,
     all: u64,

@@ -1,5 +1,7 @@
 // The switch list: "One entry per core touched, in order of first touch: thread out with reason, thread in."
 // `switch_of` is for hosts, who read a list by it; the others are parts.
+#![tactic(auto)]
+
 ghost use Rattle.std.specs.Prelude.{◌≡◌, [], ℕ, ◌+◌, ◌<◌, ◌≤◌, min, max, length};
 ghost use Rattle.std.proofs.Math.Option.{some};
 ghost use Rattle.model.specs.Reading.{reason_meant, option_out_meant, out_from, switch_meant, switch_words_meant};
@@ -13,7 +15,7 @@ use queue::moves;
 use queue::moves::Move;
 
 // The list is entries[..count].
-#[derive(Drop)]
+#[derive(Clone, Copy)]
 pub struct SwitchList {
     pub entries: [SwitchWords; 8],
     pub count: usize,

@@ -9,7 +9,7 @@ use borrow.Author.Tests.{eqb-true, eq-eqb, lt-ltb, le-ltb, ltb-true, ltb-false, 
 use lib.Dec.{eqb, ltb}
 use lib.ListN.{length, get_or, take, drop, length-drop, drop_of_length-le}
 use lib.Seq.{take_all, take-length, drop-drop}
-use Rattle.bytes.specs.Bytes.{index_of, index_after, slice}
+use Rattle.text.specs.Scan.{index_of, index_after, slice}
 use Rattle.text.specs.Bytes.{all, lookup}
 use Rattle.text.specs.Lines.{cut, before_eq, after_eq, fields, named, key_in}
 use Rattle.text.specs.Searches.{key_up_to, field_up_to}

@@ -2,5 +2,6 @@
 pub mod Bytes
 pub mod Lines
 pub mod Searches
+pub mod Scan
 pub mod Buffers
 pub mod Reading

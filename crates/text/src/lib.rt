@@ -1,11 +1,19 @@
 // Text as the settings and the scripts have it: lines, numbers, and texts put into lent buffers.
 // Its public functions are parts for other crates: no host calls them.
+#![tactic(auto)]
+
 pub mod lines;
 pub mod numbers;
 pub mod put;
+pub mod scan;
+
+// The descriptors of standard input and output.
+pub const STDIN_FILENO: i32 = 0;
+
+pub const STDOUT_FILENO: i32 = 1;
 
 // A number as `parse::<u32>` reads it.
-#[derive(Drop)]
+#[derive(Clone, Copy)]
 pub enum Number {
     Is(u32),
     Unreadable,

@@ -5,13 +5,15 @@ ghost use Rattle.text.specs.Lines.{cut, line_of, before_eq, after_eq, white, tri
 ghost use Rattle.text.specs.Lines.{value as Lines·value};
 ghost use Rattle.text.specs.Searches.{line_if, key_up_to, field_up_to};
 
+use crate::scan;
+
 // Past the first byte 10 from `from` on, or the end where there is none.
 pub fn piece_end(text: &[u8], from: usize) -> usize
     requires { from < length text.now }
     ensures { (from < result) × (result ≤ length text.now) × (cut (drop from text.now) ≡ take (result - from) (drop from text.now) ∷ cut (drop result text.now)) }
 {
     let n = text.len();
-    let p = bytes::scan::find(text, from, n, 10);
+    let p = scan::find(text, from, n, 10);
     if p < n {
         return p + 1;
     }
@@ -53,7 +55,7 @@ pub fn is_line(piece: &[u8]) -> bool
 pub fn equals_at(line: &[u8]) -> usize
     ensures { (result ≤ length line.now) × (before_eq line.now ≡ key_up_to result line.now) × (after_eq line.now ≡ drop (result + 1) line.now) }
 {
-    bytes::scan::find(line, 0, line.len(), 61)
+    scan::find(line, 0, line.len(), 61)
 }
 
 // Whether two texts are the same, byte by byte.
@@ -140,5 +142,5 @@ pub fn comma_at(v: &[u8], from: usize) -> usize
     requires { from ≤ length v.now }
     ensures { (from ≤ result) × (result ≤ length v.now) × (fields (drop from v.now) ≡ field_up_to from result v.now) }
 {
-    bytes::scan::find(v, from, v.len(), 44)
+    scan::find(v, from, v.len(), 44)
 }

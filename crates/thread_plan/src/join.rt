@@ -18,7 +18,7 @@ use record_reads::read::join_outcome;
 use records::change::Change;
 use state::Sched;
 
-#[derive(Drop)]
+#[derive(Clone, Copy)]
 pub struct JoinDecided {
     pub sched: Sched,
     pub answer: JoinAnswer,

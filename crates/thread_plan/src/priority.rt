@@ -14,7 +14,7 @@ use records::change::Change;
 use state::Sched;
 
 // What a call that answers taken or refused leaves, and the change of a record that completes it.
-#[derive(Drop)]
+#[derive(Clone, Copy)]
 pub struct Decided {
     pub sched: Sched,
     pub answer: CallAnswer,

@@ -14,7 +14,7 @@ use model::{CallAnswer, OptionTid, SchedEventKind, SpawnAnswer, Tid};
 use records::change::Change;
 use state::Sched;
 
-#[derive(Drop)]
+#[derive(Clone, Copy)]
 pub struct SpawnDecided {
     pub sched: Sched,
     pub answer: SpawnAnswer,

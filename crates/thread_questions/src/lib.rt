@@ -1,6 +1,8 @@
 // The questions that read the lent thread records, and the summary over them. A host hands in the scheduler and the records as it lends them to the calls: all
 // that is asked is what `new` and every call leave (`Askable`). Each public function is thin and proved by hand; what it computes stands in parts, which are
 // given the sums over the records in use, or one record.
+#![tactic(auto)]
+
 mod left;
 mod places;
 
@@ -22,7 +24,7 @@ use summary::{FigureBits, SchedSummary, Sums, bits_from, figures_from, sums_from
 use threads::{record_at, totals};
 
 // A thread's record, if there is such a thread.
-#[derive(Drop)]
+#[derive(Clone, Copy)]
 pub enum OptionThread {
     None,
     Some(ThreadInfo),

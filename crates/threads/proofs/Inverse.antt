@@ -3,13 +3,13 @@ use Prim.Native.Nat.{ℕ}
 use mathlib.Core.Path.{◌≡◌, refl, sym, ap, ◌∙◌}
 use mathlib.Core.Option.{Option, none, some}
 use Rattle.model.specs.declared.OptionTid.{OptionTid}
-use Rattle.model.specs.declared.OptionTid.TheVariants as optionTids
+use Rattle.model.specs.declared.OptionTid.TheVariants as option_tids
 use Rattle.model.specs.declared.OptionCore.{OptionCore}
-use Rattle.model.specs.declared.OptionCore.TheVariants as optionCores
+use Rattle.model.specs.declared.OptionCore.TheVariants as option_cores
 use Rattle.model.specs.declared.OptionTick.{OptionTick}
-use Rattle.model.specs.declared.OptionTick.TheVariants as optionTicks
+use Rattle.model.specs.declared.OptionTick.TheVariants as option_ticks
 use Rattle.model.specs.declared.OptionLeave.{OptionLeave}
-use Rattle.model.specs.declared.OptionLeave.TheVariants as optionLeaves
+use Rattle.model.specs.declared.OptionLeave.TheVariants as option_leaves
 use Rattle.model.specs.declared.LeaveReason as LeaveReasons
 use Rattle.model.specs.declared.LeaveReason.TheVariants as reasons
 use Rattle.model.specs.declared.ThreadState as ThreadStates
@@ -19,16 +19,16 @@ use Rattle.model.specs.Types.{LeaveReason, Exit, Block, Yield, Quantum, Preempt,
 use Rattle.model.specs.Reading.{option_tid_meant, option_core_meant, option_tick_meant, option_leave_meant, reason_meant, thread_state_meant, thread_meant}
 
 abbrev tid_of : Option ℕ → OptionTid
-tid_of none = optionTids.None
-tid_of (some n) = optionTids.Some (record { 0 = n })
+tid_of none = option_tids.None
+tid_of (some n) = option_tids.Some (record { 0 = n })
 
 abbrev core_of : Option ℕ → OptionCore
-core_of none = optionCores.None
-core_of (some n) = optionCores.Some (record { 0 = n })
+core_of none = option_cores.None
+core_of (some n) = option_cores.Some (record { 0 = n })
 
 abbrev tick_of : Option ℕ → OptionTick
-tick_of none = optionTicks.None
-tick_of (some n) = optionTicks.Some (record { 0 = n })
+tick_of none = option_ticks.None
+tick_of (some n) = option_ticks.Some (record { 0 = n })
 
 abbrev reason_of : LeaveReason → LeaveReasons.LeaveReason
 reason_of Exit = reasons.Exit
@@ -45,8 +45,8 @@ state_of (Blocked t) = thread_states.Blocked (record { 0 = t })
 state_of Exited = thread_states.Exited
 
 abbrev leave_of : Option LastLeave → OptionLeave
-leave_of none = optionLeaves.None
-leave_of (some l) = optionLeaves.Some (record { tick = record { 0 = l.tick }; core = record { 0 = l.core }; reason = reason_of l.reason })
+leave_of none = option_leaves.None
+leave_of (some l) = option_leaves.Some (record { tick = record { 0 = l.tick }; core = record { 0 = l.core }; reason = reason_of l.reason })
 
 -- the program's value for a record of the definition
 unfoldable pub thread_of : ThreadRecord → ThreadInfo
@@ -74,16 +74,16 @@ thread_of t =
     }
 
 tid-back : (t : OptionTid) → tid_of (option_tid_meant t) ≡ t
-tid-back optionTids.None = refl
-tid-back (optionTids.Some t) = refl
+tid-back option_tids.None = refl
+tid-back (option_tids.Some t) = refl
 
 core-back : (c : OptionCore) → core_of (option_core_meant c) ≡ c
-core-back optionCores.None = refl
-core-back (optionCores.Some c) = refl
+core-back option_cores.None = refl
+core-back (option_cores.Some c) = refl
 
 tick-back : (n : OptionTick) → tick_of (option_tick_meant n) ≡ n
-tick-back optionTicks.None = refl
-tick-back (optionTicks.Some n) = refl
+tick-back option_ticks.None = refl
+tick-back (option_ticks.Some n) = refl
 
 reason-back : (r : LeaveReasons.LeaveReason) → reason_of (reason_meant r) ≡ r
 reason-back reasons.Exit = refl
@@ -100,8 +100,8 @@ state-back (thread_states.Blocked t) = refl
 state-back thread_states.Exited = refl
 
 leave-back : (l : OptionLeave) → leave_of (option_leave_meant l) ≡ l
-leave-back optionLeaves.None = refl
-leave-back (optionLeaves.Some l) = rw (reason-back l.reason)
+leave-back option_leaves.None = refl
+leave-back (option_leaves.Some l) = rw (reason-back l.reason)
 
 pub thread-back : (t : ThreadInfo) → thread_of (thread_meant t) ≡ t
 unfolding thread_of

@@ -1,6 +1,8 @@
 // The thread records, a lent slice in thread order. These few functions apply in place what `records` and the crates beside it have by
 // value, and read no field of a record themselves: each is proved by hand.
 // Its public functions are parts for other crates: no host calls them.
+#![tactic(auto)]
+
 ghost use Rattle.std.specs.Prelude.{◌≡◌, ℕ, ◌+◌, ◌<◌, ◌≤◌, length, get_or};
 ghost use Rattle.model.specs.Reading.{thread_meant};
 ghost use Rattle.model.specs.Accounting.{charge_threads};

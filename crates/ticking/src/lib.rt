@@ -1,6 +1,8 @@
 // A load: a scheduler made, threads spawned, and many ticks one after the other: in each, every core reports by `retired`, and `end_tick` ends it.
 // No call is a value that has to be taken apart, so that what is timed is the calls themselves.
 // Its public functions are parts for other crates: no host calls them.
+#![tactic(auto)]
+
 ghost use Rattle.std.specs.Prelude.{◌≡◌, List, ℕ, ◌<◌};
 ghost use Rattle.std.proofs.Math.Option.{some};
 ghost use Rattle.model.specs.declared.ThreadInfo.{ThreadInfo};
@@ -23,14 +25,14 @@ use state::{Capacities, Sched};
 use tick_plan::Ticked;
 
 // What `new` answered, and what is left.
-#[derive(Drop)]
+#[derive(Clone, Copy)]
 pub struct Loaded {
     pub made: CallAnswer,
     pub sched: Sched,
 }
 
 // The same, with the records.
-#[derive(Drop)]
+#[derive(Clone, Copy)]
 pub struct LoadedArray {
     pub loaded: Loaded,
     pub threads: [ThreadInfo; 256],

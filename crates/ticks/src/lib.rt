@@ -1,5 +1,7 @@
 // One core's three counters, lent by &mut and charged with one tick.
 // Its public functions are parts for other crates: no host calls them.
+#![tactic(auto)]
+
 ghost use Rattle.std.specs.Prelude.{◌≡◌};
 ghost use Rattle.model.specs.Accounting.{charge_core};
 ghost use Rattle.model.specs.Reading.{core_state_meant, core_ticks_meant};

@@ -1,5 +1,7 @@
 // Runs a script of calls from standard input, and writes what each call answers and, where a line asks for it, the whole state. The first line says how
 // many follow. differential/program compares what is written with the original Rust.
+#![tactic(auto)]
+
 ghost use Rattle.std.specs.Prelude.{◌≡◌, List, ℕ, ◌≤◌, length};
 ghost use Rattle.state.specs.Memory.{memory};
 ghost use Rattle.state.specs.State.{Valid};
@@ -19,7 +21,7 @@ use trace_state::cores::{print_figures, print_front};
 use trace_text::out::least;
 
 // The scheduler between two lines, with its records.
-#[derive(Drop)]
+#[derive(Clone, Copy)]
 struct Turn {
     sched: Sched,
     threads: [ThreadInfo; 256],

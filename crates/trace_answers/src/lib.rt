@@ -1,9 +1,11 @@
 // What the calls answer, written as lines of a trace.
 // The `pub` functions are parts of the program `trace`. No contract can say what is written to standard output; those here keep the positions within the
 // buffers.
+#![tactic(auto)]
+
 ghost use Rattle.std.specs.Prelude.{◌≤◌, length};
 
-use libc::STDOUT_FILENO;
+use text::STDOUT_FILENO;
 use model::{CallAnswer, JoinOutcome, OptionOut, SwitchWords};
 use sched::{Applied, Outcome};
 use settings::Refusal;

@@ -7,7 +7,7 @@ use native.Mathlib.Omega.{arith}
 use native.Mathlib.Numerals.{add-one}
 use lib.ListN.{length, take, drop, set, replicate, length-set, length-drop, take-append-drop, drop_of_length-le}
 use lib.Seq.{take_all, take-suc-set, drop-set-lt, drop-drop}
-use Rattle.bytes.specs.Bytes.{index_of, slice}
+use Rattle.text.specs.Scan.{index_of, slice}
 use Rattle.text.specs.Bytes.{number}
 use Rattle.text.specs.Reading.{number_meant}
 use Rattle.text.specs.declared.Number.{Number}

@@ -7,7 +7,7 @@
 --   5 CORE                                    yield_now  11                show: the whole state
 use Rattle.std.specs.Prelude.{ℕ, zero, suc, ◌+◌, ◌≤◌, ◌≡◌, Bool, true, not, List, [], ◌∷◌, eqb, length, take, drop, get_or}
 use Rattle.std.proofs.Math.Option.{Option, none, some}
-use Rattle.bytes.specs.Bytes.{index_of}
+use Rattle.text.specs.Scan.{index_of}
 use Rattle.text.specs.Bytes.{all, number}
 use Rattle.text.specs.declared.Number.{Number}
 use Rattle.text.specs.declared.Number.TheVariants.{Is, Unreadable}

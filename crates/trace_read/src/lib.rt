@@ -1,5 +1,7 @@
 // A trace's script: its lines read from standard input, and what each says. Nothing here has a slice of thread records.
 // The `pub` functions are parts of the program `trace`. Which bytes are read no contract can say; those here say what they mean.
+#![tactic(auto)]
+
 pub mod lines;
 
 use sched::Call;
@@ -7,7 +9,7 @@ use settings::SchedConfig;
 use state::Capacities;
 
 // What `new` is asked for.
-#[derive(Drop)]
+#[derive(Clone, Copy)]
 pub struct Setup {
     pub config: SchedConfig,
     pub cores: u32,
@@ -16,7 +18,7 @@ pub struct Setup {
 }
 
 // One line of a script.
-#[derive(Drop)]
+#[derive(Clone, Copy)]
 pub enum Line {
     New(Setup),
     Call(Call),

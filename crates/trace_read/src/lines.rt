@@ -5,8 +5,8 @@ ghost use Rattle.trace_read.specs.Script.{fields_of, or_zero, thread_said, polic
 ghost use Rattle.trace_read.specs.Parts.{is_number, are_numbers, asked_numbers, setup_in, core_call, pair_call, line_with};
 
 use crate::{Line, Setup};
-use bytes::scan::find;
-use libc::STDIN_FILENO;
+use text::scan::find;
+use text::STDIN_FILENO;
 use model::{CoreId, OptionTid, Tid};
 use sched::Call;
 use settings::{SchedConfig, SchedPolicy};

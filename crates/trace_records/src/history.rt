@@ -5,7 +5,7 @@ ghost use Rattle.state.specs.Asked.{Askable, the_log, the_lanes};
 ghost use Rattle.state.specs.Memory.{memory};
 ghost use Rattle.state.specs.State.{Valid};
 
-use libc::STDOUT_FILENO;
+use text::STDOUT_FILENO;
 use model::{CoreId, Lane, SchedEvent, SchedEventKind, Segment};
 use questions::lists::{event, segment};
 use questions::{OptionEvent, OptionSegment};

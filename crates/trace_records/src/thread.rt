@@ -1,7 +1,7 @@
 // One thread's record as a line.
 ghost use Rattle.std.specs.Prelude.{◌≤◌, length};
 
-use libc::STDOUT_FILENO;
+use text::STDOUT_FILENO;
 use model::{OptionLeave, ThreadInfo, ThreadState, ThreadStats};
 use questions::times::{response, turnaround};
 use trace_text::out::{put_core, put_reason, put_spaced, put_text, put_tick, put_tid};

@@ -4,7 +4,7 @@ ghost use Rattle.state.specs.Asked.{Askable, Answers, nothing, the_queue};
 ghost use Rattle.trace_text.specs.Streams.{Streamed};
 ghost use Rattle.trace_state.specs.Asked.{left_text, running_text, places_text, asked_text};
 
-use libc::STDOUT_FILENO;
+use text::STDOUT_FILENO;
 use model::{CoreId, CoreState, CoreTicks, Tid};
 use questions::cores::{core_of, core_state, core_ticks, running_on, thread_on};
 use questions::lists::ready_queue;

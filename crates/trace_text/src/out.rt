@@ -7,7 +7,7 @@ ghost use Rattle.script.specs.Report.{reason_word};
 ghost use Rattle.trace_text.specs.Texts.{spaced, spaced_maybe, spaced_policy, bit_text};
 ghost use Rattle.trace_text.specs.Streams.{Streamed, Placed};
 
-use libc::STDOUT_FILENO;
+use text::STDOUT_FILENO;
 use model::{LeaveReason, OptionCore, OptionTick, OptionTid};
 use settings::SchedPolicy;
 use text::put::put;

@@ -1,0 +1,15 @@
+-- `queue::ready::remove_at` meets its contract. Assumes nothing.
+use borrow.Author.Rules.{rules}
+use native.Mathlib.Omega.{arith}
+use Prim.Native.Nat.{◌≤◌, ◌<◌, ◌-◌, suc}
+use mathlib.Core.Path.{◌≡◌, sym}
+use native.Mathlib.Numerals.{add-one}
+use lib.ListN.{length, length-set}
+use Rattle.queue.proofs.Slide.{slid, slid-start, slid-step, slid-end, slid-behind}
+use Rattle.queue.proofs.ready.remove_at.Given as goal
+
+abbrev pub invariant-loop-i : goal.invariant-loop-i
+invariant-loop-i l = (l.k ≤ l.i) × (l.i < l.n) × (length l.queue ≡ length l.initial.queue) × (l.queue ≡ slid l.k l.i l.initial.queue)
+
+abbrev pub decreases-loop-i : goal.decreases-loop-i
+decreases-loop-i l = l.n - l.i

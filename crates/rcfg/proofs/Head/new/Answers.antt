@@ -1,0 +1,5 @@
+use borrow.Author.Rules.{rules}
+use Rattle.rcfg.proofs.Head.new.Goals as goal
+
+pub returns : goal.returns
+returns c = simp c.default.ensures

@@ -1,0 +1,6 @@
+use borrow.Author.Rules.{rules}
+use Rattle.records.proofs.Steps.{start-step}
+use Rattle.records.proofs.change.ran_first.Goals as goal
+
+pub returns : goal.returns
+returns c = start-step _ _ _ _ c.first_or-first.ensures c.with_times.ensures

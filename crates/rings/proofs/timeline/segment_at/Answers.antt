@@ -1,0 +1,10 @@
+use borrow.Author.Rules.{rules}
+use mathlib.Core.Path.{ap}
+use Prim.Native.Nat.{◌/◌}
+use Rattle.model.specs.Types.{Lane}
+use Rattle.rings.proofs.TimelineLaws.{segment-read}
+use Rattle.rings.proofs.timeline.segment_at.Goals as goal
+
+pub returns : goal.returns
+returns c =
+    segment-read c.args.ring.now c.args.pos c.args.k c.entry_at-entry.result _ c.entry_at-entry.ensures (ap (λ (x : Lane). record { lane = x; start = c.entry_at-entry.result.second / 4; end = c.entry_at-entry.result.first / 4_294_967_296 }) c.lane_of-lane.ensures)

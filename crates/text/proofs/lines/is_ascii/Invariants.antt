@@ -1,0 +1,16 @@
+-- The invariant: the test of the bytes from i on is that of all.
+use borrow.Author.Rules.{rules}
+use native.Mathlib.Omega.{arith}
+use Prim.Native.Nat.{◌≤◌, ◌-◌}
+use mathlib.Core.Path.{◌≡◌, sym, ap, ◌∙◌}
+use borrow.Author.Tests.{le-leb, lt-leb}
+use lib.ListN.{length, drop, drop_of_length-le}
+use Rattle.text.specs.Bytes.{all}
+use Rattle.text.proofs.Trimming.{is_ascii, all_pass, all-stop}
+use Rattle.text.proofs.lines.is_ascii.Given as goal
+
+abbrev pub invariant-loop-i : goal.invariant-loop-i
+invariant-loop-i l = (l.i ≤ length l.l) × (all is_ascii (drop l.i l.l) ≡ all is_ascii l.l)
+
+abbrev pub decreases-loop-i : goal.decreases-loop-i
+decreases-loop-i l = length l.l - l.i
