@@ -21,19 +21,19 @@ bounds-entries-at c =
     turn-room c.args.out.now c.loop-k.k (omega (arith, c.requires, c.loop-k-test.true)) c.loop-k.entries c.loop-k.places c.loop-k.count c.loop-k.invariant.1 (move_meant c.move_at-m.result) c.move_at-m.ensures c.core_touched-c.result c.core_touched-c.ensures c.if-c-ge8.false c.entry_place-at.result c.entry_place-at.ensures
 
 pub offset_bounds-entries-at : goal.offset_bounds-entries-at
-offset_bounds-entries-at c = omega (arith, array-copy-out-e c)
+offset_bounds-entries-at c = omega (arith, (turn-room c.args.out.now c.loop-k.k (omega (arith, c.requires, c.loop-k-test.true)) c.loop-k.entries c.loop-k.places c.loop-k.count c.loop-k.invariant.1 (move_meant c.move_at-m.result) c.move_at-m.ensures c.core_touched-c.result c.core_touched-c.ensures c.if-c-ge8.false c.entry_place-at.result c.entry_place-at.ensures))
 
 pub entry_after-requires : goal.entry_after-requires
 entry_after-requires c = c.loop-k.invariant.1.words c.entry_place-at.result
 
 pub offset_bounds-entries-at-in-loop-k : goal.offset_bounds-entries-at-in-loop-k
-offset_bounds-entries-at-in-loop-k c = omega (arith, array-copy-out-e c)
+offset_bounds-entries-at-in-loop-k c = omega (arith, (turn-room c.args.out.now c.loop-k.k (omega (arith, c.requires, c.loop-k-test.true)) c.loop-k.entries c.loop-k.places c.loop-k.count c.loop-k.invariant.1 (move_meant c.move_at-m.result) c.move_at-m.ensures c.core_touched-c.result c.core_touched-c.ensures c.if-c-ge8.false c.entry_place-at.result c.entry_place-at.ensures))
 
 pub bounds-entries-at-in-loop-k : goal.bounds-entries-at-in-loop-k
-bounds-entries-at-in-loop-k c = array-copy-out-e c
+bounds-entries-at-in-loop-k c = (turn-room c.args.out.now c.loop-k.k (omega (arith, c.requires, c.loop-k-test.true)) c.loop-k.entries c.loop-k.places c.loop-k.count c.loop-k.invariant.1 (move_meant c.move_at-m.result) c.move_at-m.ensures c.core_touched-c.result c.core_touched-c.ensures c.if-c-ge8.false c.entry_place-at.result c.entry_place-at.ensures)
 
 pub entry_count-count-requires : goal.entry_count-count-requires
-entry_count-count-requires c = array-copy-out-e c
+entry_count-count-requires c = (turn-room c.args.out.now c.loop-k.k (omega (arith, c.requires, c.loop-k-test.true)) c.loop-k.entries c.loop-k.places c.loop-k.count c.loop-k.invariant.1 (move_meant c.move_at-m.result) c.move_at-m.ensures c.core_touched-c.result c.core_touched-c.ensures c.if-c-ge8.false c.entry_place-at.result c.entry_place-at.ensures)
 
 pub loop-k-preserved : goal.loop-k-preserved
 loop-k-preserved c =
