@@ -1,0 +1,22 @@
+use borrow.Author.Rules.{rules}
+use Prim.Native.Nat.{◌≤◌, ◌-◌}
+use mathlib.Core.Path.{◌≡◌, refl, ap, ◌∙◌}
+use mathlib.Core.Logic.{⊎_elim}
+use lib.ListN.{take}
+use lib.Seq.{take_all}
+use Rattle.model.specs.Calls.{elem}
+use Rattle.charges.proofs.Charging.{elem-hit, elem-miss}
+use Rattle.charges.proofs.charge.has_word.Goals as goal
+
+pub loop-k-init : goal.loop-k-init
+unfolding elem
+loop-k-init c = (search rules, refl)
+
+pub loop-k-preserved : goal.loop-k-preserved
+loop-k-preserved c = (
+  search rules,
+  ⊎_elim (λ w. w.1 ∙ elem-hit c.args.word c.loop-k.k c.args.words _ (search rules) c.loop-k.invariant.1 w.0.taken) (λ w. w.1 ∙ elem-miss c.args.word c.loop-k.k c.args.words _ (search rules) c.loop-k.invariant.1 w.0.left) c.if-words-k.branch,
+)
+
+pub returns : goal.returns
+returns c = c.loop-k.invariant.1 ∙ ap (elem c.args.word) (take_all c.loop-k.k c.args.words (search rules))
