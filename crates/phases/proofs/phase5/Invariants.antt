@@ -1,0 +1,23 @@
+-- `phases::phase5` meets its contract. Assumes nothing.
+use borrow.Author.Rules.{rules}
+use native.Mathlib.Omega.{arith}
+use Prim.Native.Nat.{◌*◌, ◌-◌, ◌≤◌}
+use mathlib.Core.Path.{◌≡◌, refl, sym, ◌∙◌}
+use mathlib.Core.Bool.{Bool, false}
+use mathlib.Core.List.{List}
+use lib.ListN.{length, take, get_or, length-set}
+use borrow.Author.Tests.{not-true}
+use Rattle.model.specs.Phases
+use Rattle.queue.specs.Words.{moves_in, Appended, NoLonger}
+use Rattle.queue.proofs.Frames.{appended-none, appended-both, appended-room, no-longer-same, no-longer-both}
+use Rattle.turns.specs.Turns.{rules_of}
+use Rattle.turns.proofs.Steps.{besides-same, phase5-pass}
+use Rattle.phases.specs.Cores.{core_at, Ran}
+use Rattle.phases.proofs.Loops.{loop-start, loop-end, core-turn, core-unmoved}
+use Rattle.phases.proofs.phase5.Given as goal
+
+abbrev pub invariant-loop-i : goal.invariant-loop-i
+invariant-loop-i l = (l.i ≤ l.n) × (length l.cs ≡ 8) × (length l.queue ≡ length l.initial.queue) × (length l.out ≡ length l.initial.out) × NoLonger l.initial.len l.len l.initial.queue l.queue × Appended (3 * l.i) l.initial.count l.count l.initial.out l.out × ((ex bl : List Bool) → Ran (Phases.phase5 (rules_of l.policy l.quantum l.cost l.prios)) l.i (core_at l.initial.cs ex bl l.initial.yields l.initial.progressed) (take l.initial.len l.initial.queue) (moves_in l.initial.out l.initial.count) (core_at l.cs ex bl l.yields l.progressed) (take l.len l.queue) (moves_in l.out l.count))
+
+abbrev pub decreases-loop-i : goal.decreases-loop-i
+decreases-loop-i l = 8 - l.i

@@ -1,0 +1,17 @@
+-- `preempt::least_urgent` meets its contract. Assumes nothing.
+use borrow.Author.Rules.{rules}
+use native.Mathlib.Omega.{arith}
+use Prim.Native.Nat.{◌≤◌, ◌-◌}
+use mathlib.Core.Path.{ap}
+use mathlib.Core.Bool.{Bool}
+use mathlib.Core.List.{List, []}
+use Rattle.model.specs.Reading.{core_state_meant}
+use Rattle.queue.specs.Ready.{prio_of}
+use Rattle.preempt.proofs.Victims.{Seek, seek-start, seek-idle, seek-switching, seek-take, seek-keep, seek-end, seek-within}
+use Rattle.preempt.proofs.least_urgent.Given as goal
+
+abbrev pub invariant-loop-i : goal.invariant-loop-i
+invariant-loop-i l = (l.i ≤ l.n) × ((ex bl yi pr : List Bool) → Seek (prio_of l.prios) l.n l.cs ex bl yi pr l.i l.at l.high)
+
+abbrev pub decreases-loop-i : goal.decreases-loop-i
+decreases-loop-i l = l.n - l.i
