@@ -8,6 +8,7 @@ use lib.Seq.{take_all}
 use Rattle.charges.specs.Charging.{runs_held}
 use Rattle.charges.proofs.Charging.{run-hit, run-rests, run-miss}
 use Rattle.charges.proofs.charge.is_run.Goals as goal
+use Rattle.charges.proofs.charge.is_run.Goals.{then-held-k+then-running-k, then-held-k+else-running-k, else-held-k}
 
 pub loop-k-init : goal.loop-k-init
 unfolding runs_held
@@ -17,8 +18,11 @@ pub loop-k-preserved : goal.loop-k-preserved
 loop-k-preserved c =
     (
       search rules,
-      ⊎_elim (λ w. w.2 ∙ run-hit c.args.tid c.loop-k.k c.args.held c.args.running _ (search rules) (search rules) c.loop-k.invariant.1 w.0.taken w.1.taken)
-          (λ v. ⊎_elim (λ w. w.2 ∙ run-rests c.args.tid c.loop-k.k c.args.held c.args.running _ (search rules) (search rules) c.loop-k.invariant.1 w.0.taken w.1.left) (λ w. w.1 ∙ run-miss c.args.tid c.loop-k.k c.args.held c.args.running _ (search rules) (search rules) c.loop-k.invariant.1 w.0.left) v) c.if-held-k.branch,
+      elim c.if-held-k.branch
+        [ then-held-k+then-running-k w ↦ w.found-is ∙ run-hit c.args.tid c.loop-k.k c.args.held c.args.running _ (search rules) (search rules) c.loop-k.invariant.1 w.if-held-k.true w.if-running-k.true
+        | then-held-k+else-running-k w ↦ w.found-is ∙ run-rests c.args.tid c.loop-k.k c.args.held c.args.running _ (search rules) (search rules) c.loop-k.invariant.1 w.if-held-k.true w.if-running-k.false
+        | else-held-k w ↦ w.found-is ∙ run-miss c.args.tid c.loop-k.k c.args.held c.args.running _ (search rules) (search rules) c.loop-k.invariant.1 w.if-held-k.false
+        ],
     )
 
 pub returns : goal.returns
