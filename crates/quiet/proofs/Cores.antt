@@ -133,7 +133,7 @@ module _ (s : Sched) (h : is_quiet s ≡ true) (r : Roomy s) where
   pub growing : (w : CoreWords) (j : ℕ) → get_or (states_of s.states) j CoreStateCases.Idle ≡ state_in w → Growing w j
   unfolding calm core_from
   growing w j e l =
-      calm-held w.kind w.tid w.count _ _ _ _ _ _ (rw e at (quiet_calm s h j l)) (rw e at (r j l))
+      calm-held w.kind w.tid w.count (is_preemptive (policy_meant s.config.policy)) s.config.quantum (core_from (states_of s.states) s.exits s.blocks s.yields s.progressed j).exits (core_from (states_of s.states) s.exits s.blocks s.yields s.progressed j).blocks (core_from (states_of s.states) s.exits s.blocks s.yields s.progressed j).yields (core_from (states_of s.states) s.exits s.blocks s.yields s.progressed j).progressed (rw e at (quiet_calm s h j l)) (rw e at (r j l))
 
 ---- the phases of a quiet state
 
