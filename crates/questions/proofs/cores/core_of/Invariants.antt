@@ -1,0 +1,24 @@
+-- of n cores with these marks, those behind the last are idle
+use borrow.Author.Rules.{rules}
+use native.Mathlib.Omega.{arith}
+use mathlib.Core.Path.{◌≡◌, refl, sym, ◌∙◌, subst}
+use mathlib.Core.Bool.{Bool}
+use mathlib.Core.List.{List}
+use Prim.Native.Nat.{ℕ, ◌≤◌, ◌-◌}
+use native.Mathlib.Numerals.{add-one}
+use Rattle.model.specs.declared.CoreState as Program
+use Rattle.model.specs.Calls.{idle_core}
+use Rattle.state.specs.declared.Sched.{Sched}
+use Rattle.state.specs.Memory.{Memory}
+use Rattle.state.specs.State.{core_from, states_of, Valid}
+use Rattle.questions.proofs.CoreLaws.{from, find-pass, find-here, find_none, core-found}
+use Rattle.questions.proofs.cores.core_of.Given as goal
+
+abbrev pub Board : List Program.CoreState → (ex bl yi pr : List Bool) → ℕ → Type 0
+Board a ex bl yi pr n = (j : ℕ) → n ≤ j → core_from a ex bl yi pr j ≡ idle_core
+
+abbrev pub invariant-loop-i : goal.invariant-loop-i
+invariant-loop-i l = (l.i ≤ 8) × ((ex bl yi pr : List Bool) (n : ℕ) → Board l.a ex bl yi pr n → from l.tid.0 (core_from l.a ex bl yi pr) n 0 ≡ from l.tid.0 (core_from l.a ex bl yi pr) n l.i)
+
+abbrev pub decreases-loop-i : goal.decreases-loop-i
+decreases-loop-i l = 8 - l.i

@@ -1,0 +1,18 @@
+use borrow.Author.Rules.{rules}
+use native.Mathlib.Omega.{arith}
+use Rattle.model.specs.Accounting.{is_holder}
+use Rattle.questions.proofs.cores.is_held_by.Reads as reads
+use Rattle.questions.proofs.cores.is_held_by.Lts as lts
+use Rattle.questions.proofs.cores.is_held_by.Goals as goal
+
+pub returns-in-Idle : goal.returns-in-Idle
+unfolding is_holder
+returns-in-Idle c = rw c.in-Idle.is
+
+pub returns-in-Switching : goal.returns-in-Switching
+unfolding is_holder
+returns-in-Switching c = rw c.in-Switching.is
+
+pub returns-in-Running : goal.returns-in-Running
+unfolding is_holder
+returns-in-Running c = rw c.in-Running.is
