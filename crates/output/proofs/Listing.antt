@@ -1,11 +1,11 @@
 -- The lines of a switch list, one after the other.
 use Prim.Native.Nat.{ℕ, zero, suc, ◌+◌, ◌≤◌, ◌<◌}
 use mathlib.Core.Path.{◌≡◌, sym, ap, ◌∙◌}
-use mathlib.Core.List.{List, [], ◌∷◌, ◌++◌, map, append_assoc, append-nil}
+use mathlib.Core.List.{List, [], ◌∷◌, ◌++◌, append_assoc, append-nil}
 use native.Mathlib.Omega.{arith}
 use native.Mathlib.Nat.{add-zero}
 use lib.ListN.{length, get_or, length-append}
-use lib.Seq.{paste-zero, take_all}
+use lib.Seq.{paste-zero}
 use Rattle.text.specs.Buffers.{Put}
 use Rattle.text.proofs.Puts.{put_same}
 use Rattle.model.specs.declared.SwitchWords.{SwitchWords}

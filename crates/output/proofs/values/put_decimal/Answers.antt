@@ -1,0 +1,18 @@
+use native.Mathlib.Omega.{arith}
+use mathlib.Core.Path.{◌≡◌, ◌∙◌}
+use lib.ListN.{take}
+use Rattle.text.specs.Bytes.{decimal}
+use Rattle.text.proofs.Decimal.{decimal-length}
+use Rattle.text.proofs.Printed.{printed-decimal}
+use Rattle.text.proofs.Puts.{put_same}
+use Rattle.output.proofs.values.put_decimal.Goals as goal
+
+pub put-requires : goal.put-requires
+put-requires c =
+    let same : take c.decimal-k.result c.decimal-k.new.out ≡ decimal c.args.n = c.decimal-k.ensures.digits ∙ printed-decimal c.decimal-k.result c.args.n c.decimal-k.ensures.len in
+    rw same (omega (arith, decimal-length 19 c.args.n (omega arith)))
+
+pub returns : goal.returns
+returns c =
+    let same : take c.decimal-k.result c.decimal-k.new.out ≡ decimal c.args.n = c.decimal-k.ensures.digits ∙ printed-decimal c.decimal-k.result c.args.n c.decimal-k.ensures.len in
+    put_same c.args.out.now c.args.at _ (decimal c.args.n) _ _ same c.put.ensures
