@@ -1,7 +1,7 @@
 -- The call `new`, put together: the first record, its priority, the log's first events, and the state are the definition's first state.
-use Prim.Native.Nat.{ℕ, zero, suc, pred, ◌+◌, ◌-◌, ◌*◌, ◌/◌, ◌<◌, ◌≤◌}
+use Prim.Native.Nat.{ℕ, zero, suc, pred, ◌+◌, ◌-◌, ◌*◌, ◌<◌, ◌≤◌}
 use mathlib.Core.Path.{◌≡◌, refl, sym, ap, ap₂, ◌∙◌, subst}
-use mathlib.Core.Bool.{Bool, true, false, ◌||◌}
+use mathlib.Core.Bool.{false}
 use mathlib.Core.Option.{Option, none, some}
 use mathlib.Core.List.{List, [], ◌∷◌, ◌++◌, map}
 use native.Mathlib.Omega.{arith}
@@ -13,19 +13,18 @@ use lib.ListN.{length, take, drop, get_or, set, replicate, length-set, length-dr
 use lib.Seq.{length-take-le}
 use Rattle.settings.specs.declared.SchedConfig.{SchedConfig}
 use Rattle.settings.specs.Reading.{policy_meant}
-use Rattle.settings.specs.Policy.{beyond}
 use Rattle.model.specs.Invariants.{Bounded}
 use Rattle.model.specs.declared.ThreadInfo.{ThreadInfo}
 use Rattle.model.specs.declared.CallAnswer.{CallAnswer}
 use Rattle.model.specs.declared.CoreState as Program
 use Rattle.model.specs.declared.CoreState.TheVariants as CoreStateCases
-use Rattle.model.specs.Types.{Core, Running, ThreadRecord, CoreTicks, Segment, Event, Config, State}
+use Rattle.model.specs.Types.{Core, Running, ThreadRecord, Config}
 use Rattle.model.specs.Phases.{cleared}
-use Rattle.model.specs.Accounting.{newest, started, add_counts, born}
-use Rattle.model.specs.Calls.{idle_core, check, initial_state, refused_new, new, made, made_of}
+use Rattle.model.specs.Accounting.{started, add_counts, born}
+use Rattle.model.specs.Calls.{idle_core, initial_state, refused_new, new, made, made_of}
 use Rattle.model.specs.Reading.{thread_meant, core_ticks_meant}
 use Rattle.model.proofs.Bounded.{bounded-new}
-use Rattle.model.proofs.Refusals.{check-none, check-rest}
+use Rattle.model.proofs.Refusals.{check-none}
 use Rattle.model.proofs.PhaseLaws.{or-false-l, or-false-r}
 use Rattle.records.specs.Changes.{first_thread}
 use Rattle.rings.specs.declared.RingPos.{RingPos}
@@ -36,11 +35,11 @@ use Rattle.rings.proofs.EntryLaws.{ring-empty, entries_none}
 use Rattle.state.specs.declared.Capacities.{Capacities}
 use Rattle.state.specs.declared.Sched.{Sched}
 use Rattle.state.specs.Memory.{memory, Unchanged}
-use Rattle.state.specs.State.{firsts, core_from, states_of, meant_at, no_ticks, no_pos, lane_start, lane_words, log_words, Sizes, Rings, Marks, Valid}
+use Rattle.state.specs.State.{firsts, core_from, states_of, meant_at, no_ticks, no_pos, lane_start, lane_words, log_words, Valid}
 use Rattle.checks.specs.Check.{check_meant}
 use Rattle.walkkit.specs.Firsts as Walk
-use Rattle.walkkit.proofs.Firsts.{length-firsts, drop-firsts}
-use Rattle.new_plan.specs.First.{core_count, bad_capacity, is_short, or_refusal, new_refusal, taken_count, first_sched, with_log, first_events, FirstLogged, CreateFit, CreatedAs}
+use Rattle.new_plan.proofs.Firsts.{length-firsts, drop-firsts}
+use Rattle.new_plan.specs.First.{core_count, is_short, or_refusal, new_refusal, taken_count, first_sched, with_log, first_events, FirstLogged, CreateFit, CreatedAs}
 use Rattle.new_plan.specs.Made.{same_at, NewTaken, NewDone}
 
 ---- lists of the same

@@ -1,6 +1,6 @@
 -- What `new` checks, and the log's ring with its first two events.
-use Prim.Native.Nat.{ℕ, zero, suc, pred, ◌+◌, ◌-◌, ◌*◌, ◌/◌, ◌<◌, ◌≤◌}
-use mathlib.Core.Path.{◌≡◌, refl, sym, ap, ◌∙◌, subst}
+use Prim.Native.Nat.{ℕ, zero, suc, ◌-◌, ◌*◌, ◌/◌, ◌≤◌}
+use mathlib.Core.Path.{◌≡◌, refl, sym, ap, ◌∙◌}
 use mathlib.Core.Bool.{Bool, true, false, ◌||◌}
 use mathlib.Core.Option.{Option, none, some}
 use mathlib.Core.List.{List, [], ◌∷◌, ◌++◌}
@@ -23,12 +23,11 @@ use Rattle.rings.specs.declared.RingPos.{RingPos}
 use Rattle.rings.specs.Ring.{RingOK, capacity}
 use Rattle.rings.specs.Events.{events_in}
 use Rattle.rings.proofs.EntryLaws.{ring-empty}
-use Rattle.rings.proofs.EventLaws.{events-none}
 use Rattle.state.specs.declared.Capacities.{Capacities}
 use Rattle.state.specs.declared.Sched.{Sched}
-use Rattle.state.specs.State.{no_pos, lane_start}
+use Rattle.state.specs.State.{no_pos}
 use Rattle.checks.specs.Check.{check_meant}
-use Rattle.new_plan.specs.First.{core_count, bad_capacity, is_short, or_refusal, new_refusal, first_sched, with_log, first_events, FirstLogged, CreateFit, CreatedAs}
+use Rattle.new_plan.specs.First.{core_count, bad_capacity, is_short, or_refusal, new_refusal, first_sched, with_log, first_events, FirstLogged, CreatedAs}
 
 ---- numbers
 
