@@ -2,22 +2,22 @@
 use Prim.Native.Nat.{ℕ, zero, suc, ◌+◌, ◌*◌, ◌<◌, ◌≤◌, ◌^◌, max}
 use mathlib.Core.Path.{◌≡◌, refl, sym, ap, ◌∙◌, subst}
 use mathlib.Core.Bool.{Bool, true, false}
-use mathlib.Core.Option.{Option, none, some}
-use mathlib.Core.List.{List, [], ◌∷◌, ◌++◌, map}
+use mathlib.Core.Option.{Option, none}
+use mathlib.Core.List.{List, [], ◌∷◌, ◌++◌}
 use native.Mathlib.Omega.{arith}
 use borrow.Author.Tests.{leb-true, leb-false}
 use lib.Dec.{leb}
-use lib.ListN.{length, take, drop, get_or}
+use lib.ListN.{length, take, get_or}
 use lib.Seq.{length-take-le}
 use Rattle.model.specs.Invariants.{All, ThreadIn}
 use Rattle.model.specs.declared.CallAnswer.{CallAnswer}
 use Rattle.model.specs.declared.CallAnswer.TheVariants as CallCases
 use Rattle.model.specs.declared.ThreadInfo.{ThreadInfo}
-use Rattle.model.specs.Types.{CoreState, Core, Move, ThreadRecord, State}
+use Rattle.model.specs.Types.{CoreState, Core, Move, State}
 use Rattle.model.specs.Phases.{update, without, dispatch_moves}
-use Rattle.model.specs.Accounting.{apply_moves, switch_list, takes_in}
-use Rattle.model.specs.Calls.{Answer, switched, refusal, accept, check, force, rules, no_core, core_at, core_state_of, any_leaving, is_switching, cannot_take, taken_by, out_of, back_of, forced_core, limit_switches, limit_now}
-use Rattle.model.specs.Reading.{core_state_meant, thread_meant}
+use Rattle.model.specs.Accounting.{apply_moves, switch_list}
+use Rattle.model.specs.Calls.{switched, refusal, accept, check, force, rules, no_core, core_at, core_state_of, any_leaving, is_switching, cannot_take, taken_by, out_of, back_of, forced_core, limit_switches, limit_now}
+use Rattle.model.specs.Reading.{thread_meant}
 use Rattle.switches.specs.Entries.{answer_with}
 use Rattle.switches.proofs.Words.{list-says, list-taken}
 use Rattle.model.proofs.Refusals.{check-none, check-rest}
@@ -32,8 +32,8 @@ use Rattle.threads.specs.Slice.{blank, threads_in, Front, tid_at, MovesFit}
 use Rattle.threads.proofs.Slices.{thread-at, length-threads}
 use Rattle.state.specs.declared.Sched.{Sched}
 use Rattle.state.specs.Memory.{memory}
-use Rattle.state.specs.State.{firsts, core_from, states_of, no_pos, lane_words, meant_at, Sizes, Rings, Marks, Valid}
-use Rattle.state.specs.Done.{Frame, Done}
+use Rattle.state.specs.State.{core_from, no_pos, meant_at, Valid}
+use Rattle.state.specs.Done.{Done}
 use Rattle.state.proofs.Doing.{done-taken}
 use Rattle.state.proofs.Firsts.{length-firsts, core_at-firsts}
 use Rattle.accounts.proofs.Figures.{firsts_same, applied-log, applied-timelines}
