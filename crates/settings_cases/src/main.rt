@@ -2,14 +2,13 @@
 // byte 10, and then its bytes. What each case reads as is printed, and settings are written, refused a short buffer and read back.
 #![tactic(auto)]
 
-use text::{STDIN_FILENO, STDOUT_FILENO};
 use rcfg::reading::from_rcfg;
 use rcfg::writing::{to_rcfg, write_and_read};
 use rcfg::{Settled, Written};
 use settings::{Refusal, SchedConfig, SchedPolicy};
-use text::Number;
 use text::lines::piece_end;
 use text::numbers::read_number;
+use text::{Number, STDIN_FILENO, STDOUT_FILENO};
 
 fn main() {
     let mut input = io::large_buffer();

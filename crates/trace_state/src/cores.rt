@@ -4,13 +4,13 @@ ghost use Rattle.state.specs.Asked.{Askable, Answers, nothing, the_queue};
 ghost use Rattle.trace_text.specs.Streams.{Streamed};
 ghost use Rattle.trace_state.specs.Asked.{left_text, running_text, places_text, asked_text};
 
-use text::STDOUT_FILENO;
 use model::{CoreId, CoreState, CoreTicks, Tid};
 use questions::cores::{core_of, core_state, core_ticks, running_on, thread_on};
 use questions::lists::ready_queue;
 use questions::{OptionTicks, next_tid};
 use settings::SchedConfig;
 use state::Sched;
+use text::STDOUT_FILENO;
 use trace_text::out::{put_bit, put_core, put_policy, put_spaced, put_text, put_tid, wide};
 
 fn put_clock(out: &mut [u8], at: usize, s: Sched) -> usize

@@ -7,9 +7,9 @@ ghost use Rattle.script.specs.Report.{reason_word};
 ghost use Rattle.trace_text.specs.Texts.{spaced, spaced_maybe, spaced_policy, bit_text};
 ghost use Rattle.trace_text.specs.Streams.{Streamed, Placed};
 
-use text::STDOUT_FILENO;
 use model::{LeaveReason, OptionCore, OptionTick, OptionTid};
 use settings::SchedPolicy;
+use text::STDOUT_FILENO;
 use text::put::put;
 
 pub fn put_text(out: &mut [u8], at: usize, text: &[u8]) -> usize

@@ -21,12 +21,11 @@ phase1_on-t-requires c =
     subst Short (sym (rest-core c.args.cores c.loop-i.cs [] [] [] [] (c.loop-i.invariant.2 [] [] [] [] [] []) c.loop-i.i (omega arith))) (c.requires.by_index c.loop-i.i c.if-n-i.false)
 
 pub loop-i-preserved : goal.loop-i-preserved
-loop-i-preserved c =
-    (
-      omega (arith, c.if-n-i.false),
-      simp length-set c.loop-i.invariant.1,
-      λ ex bl yi pr q m. core-turn _ _ _ _ _ _ _ _ _ _ _ _ (c.loop-i.invariant.2 ex bl yi pr q m) (omega (arith, c.loop-i-test.true, c.loop-i.invariant.1)) _ _ _ _ _ _ _ (besides-same ex c.loop-i.i) (besides-same bl c.loop-i.i) (besides-same yi c.loop-i.i) (besides-same pr c.loop-i.i) (phase1-turn c.loop-i.i _ _ (get_or ex c.loop-i.i false) (get_or bl c.loop-i.i false) (get_or yi c.loop-i.i false) (get_or pr c.loop-i.i false) q m c.phase1_on-t.ensures),
-    )
+loop-i-preserved c = (
+  omega (arith, c.if-n-i.false),
+  simp length-set c.loop-i.invariant.1,
+  λ ex bl yi pr q m. core-turn _ _ _ _ _ _ _ _ _ _ _ _ (c.loop-i.invariant.2 ex bl yi pr q m) (omega (arith, c.loop-i-test.true, c.loop-i.invariant.1)) _ _ _ _ _ _ _ (besides-same ex c.loop-i.i) (besides-same bl c.loop-i.i) (besides-same yi c.loop-i.i) (besides-same pr c.loop-i.i) (phase1-turn c.loop-i.i _ _ (get_or ex c.loop-i.i false) (get_or bl c.loop-i.i false) (get_or yi c.loop-i.i false) (get_or pr c.loop-i.i false) q m c.phase1_on-t.ensures),
+)
 
 pub returns-after-loop-i : goal.returns-after-loop-i
 returns-after-loop-i c =

@@ -19,39 +19,37 @@ pub loop-i-init : goal.loop-i-init
 loop-i-init c = (search rules, search rules, refl, refl, no-longer-same _ _, appended-none _ _ _, λ ex bl. loop-start _ _ _ _)
 
 pub loop-i-preserved-then-not-has_turn : goal.loop-i-preserved-then-not-has_turn
-loop-i-preserved-then-not-has_turn c =
-    (
-      omega (arith, c.if-n-i.false),
-      c.loop-i.invariant.1,
-      c.loop-i.invariant.2,
-      c.loop-i.invariant.3,
-      c.loop-i.invariant.4,
-      appended-room _ c.loop-i.invariant.5 (omega arith),
-      λ ex bl. core-unmoved _ _ _ _ _ _ _ _ _ _ _ _ (c.loop-i.invariant.6 ex bl) (omega (arith, c.loop-i-test.true, c.loop-i.invariant.1)) (phase5-pass _ _ _ _ _ _ _ _ (sym c.has_turn.ensures ∙ not-true _ c.if-not-has_turn.true-raw)),
-    )
+loop-i-preserved-then-not-has_turn c = (
+  omega (arith, c.if-n-i.false),
+  c.loop-i.invariant.1,
+  c.loop-i.invariant.2,
+  c.loop-i.invariant.3,
+  c.loop-i.invariant.4,
+  appended-room _ c.loop-i.invariant.5 (omega arith),
+  λ ex bl. core-unmoved _ _ _ _ _ _ _ _ _ _ _ _ (c.loop-i.invariant.6 ex bl) (omega (arith, c.loop-i-test.true, c.loop-i.invariant.1)) (phase5-pass _ _ _ _ _ _ _ _ (sym c.has_turn.ensures ∙ not-true _ c.if-not-has_turn.true-raw)),
+)
 
 pub loop-i-preserved : goal.loop-i-preserved
-loop-i-preserved c =
-    (
-      omega (arith, c.if-n-i.false),
-      simp length-set c.loop-i.invariant.1,
-      c.phase5_on-t.auto.queue ∙ c.loop-i.invariant.2,
-      c.phase5_on-t.auto.out ∙ c.loop-i.invariant.3,
-      no-longer-both c.loop-i.invariant.4 c.phase5_on-t.ensures.queue,
-      appended-both _ c.loop-i.invariant.5 c.phase5_on-t.ensures.out (omega arith),
-      λ ex bl. core-turn _ _ _ _ _ _ _ _ _ _ _ _ (c.loop-i.invariant.6 ex bl) (omega (arith, c.loop-i-test.true, c.loop-i.invariant.1)) _ _ _ _ _ _ _ (besides-same ex c.loop-i.i) (besides-same bl c.loop-i.i) c.phase5_on-t.ensures.besides.0 c.phase5_on-t.ensures.besides.1 (c.phase5_on-t.ensures.turn (get_or ex c.loop-i.i false) (get_or bl c.loop-i.i false)),
-    )
+loop-i-preserved c = (
+  omega (arith, c.if-n-i.false),
+  simp length-set c.loop-i.invariant.1,
+  c.phase5_on-t.auto.queue ∙ c.loop-i.invariant.2,
+  c.phase5_on-t.auto.out ∙ c.loop-i.invariant.3,
+  no-longer-both c.loop-i.invariant.4 c.phase5_on-t.ensures.queue,
+  appended-both _ c.loop-i.invariant.5 c.phase5_on-t.ensures.out (omega arith),
+  λ ex bl. core-turn _ _ _ _ _ _ _ _ _ _ _ _ (c.loop-i.invariant.6 ex bl) (omega (arith, c.loop-i-test.true, c.loop-i.invariant.1)) _ _ _ _ _ _ _ (besides-same ex c.loop-i.i) (besides-same bl c.loop-i.i) c.phase5_on-t.ensures.besides.0 c.phase5_on-t.ensures.besides.1 (c.phase5_on-t.ensures.turn (get_or ex c.loop-i.i false) (get_or bl c.loop-i.i false)),
+)
 
 pub returns-after-loop-i : goal.returns-after-loop-i
 returns-after-loop-i c = record {
-      ran = λ ex bl. loop-end (c.loop-i.invariant.6 ex bl) c.args.n c.loop-i.invariant.0 (omega (arith, c.loop-i-test.false, c.requires.0));
-      queue = c.loop-i.invariant.4;
-      out = appended-room _ c.loop-i.invariant.5 (omega (arith, c.loop-i.invariant.0));
-    }
+  ran = λ ex bl. loop-end (c.loop-i.invariant.6 ex bl) c.args.n c.loop-i.invariant.0 (omega (arith, c.loop-i-test.false, c.requires.0));
+  queue = c.loop-i.invariant.4;
+  out = appended-room _ c.loop-i.invariant.5 (omega (arith, c.loop-i.invariant.0));
+}
 
 pub returns-then-n-i : goal.returns-then-n-i
 returns-then-n-i c = record {
-      ran = λ ex bl. loop-end (c.loop-i.invariant.6 ex bl) c.args.n c.loop-i.invariant.0 c.if-n-i.true;
-      queue = c.loop-i.invariant.4;
-      out = appended-room _ c.loop-i.invariant.5 (omega (arith, c.loop-i.invariant.0));
-    }
+  ran = λ ex bl. loop-end (c.loop-i.invariant.6 ex bl) c.args.n c.loop-i.invariant.0 c.if-n-i.true;
+  queue = c.loop-i.invariant.4;
+  out = appended-room _ c.loop-i.invariant.5 (omega (arith, c.loop-i.invariant.0));
+}

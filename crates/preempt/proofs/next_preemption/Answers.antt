@@ -12,15 +12,15 @@ use Rattle.preempt.proofs.next_preemption.Goals as goal
 
 pub returns-then-len-k : goal.returns-then-len-k
 returns-then-len-k c = record {
-      next = λ ex bl yi pr. preemption-nobody (prio_of c.args.prios.now) (take c.args.len c.args.queue.now) c.most_urgent-k.result (c.most_urgent-k.ensures.any refl) _ (past c.args.queue.now c.args.len c.most_urgent-k.result c.if-len-k.true);
-      placed = tt;
-    }
+  next = λ ex bl yi pr. preemption-nobody (prio_of c.args.prios.now) (take c.args.len c.args.queue.now) c.most_urgent-k.result (c.most_urgent-k.ensures.any refl) _ (past c.args.queue.now c.args.len c.most_urgent-k.result c.if-len-k.true);
+  placed = tt;
+}
 
 pub returns-then-n-i : goal.returns-then-n-i
 returns-then-n-i c = record {
-      next = λ ex bl yi pr. preemption-idle (prio_of c.args.prios.now) (take c.args.len c.args.queue.now) c.most_urgent-k.result (c.most_urgent-k.ensures.any refl) _ c.args.cores c.args.n c.least_urgent-v.result.0 (c.least_urgent-v.ensures ex bl yi pr) c.if-n-i.true;
-      placed = tt;
-    }
+  next = λ ex bl yi pr. preemption-idle (prio_of c.args.prios.now) (take c.args.len c.args.queue.now) c.most_urgent-k.result (c.most_urgent-k.ensures.any refl) _ c.args.cores c.args.n c.least_urgent-v.result.0 (c.least_urgent-v.ensures ex bl yi pr) c.if-n-i.true;
+  placed = tt;
+}
 
 pub returns-then-priority_of : goal.returns-then-priority_of
 returns-then-priority_of c =

@@ -21,11 +21,11 @@ loop-i-init c = (search rules, search rules, refl, refl, no-longer-same _ _, app
 
 pub returns-in-Nobody : goal.returns-in-Nobody
 returns-in-Nobody c = record {
-      pass = λ policy u ex bl yi. rounds-rest (rules_of policy u c.args.cost c.args.prios.now) c.args.n _ _ _ _ c.loop-i.i (c.loop-i.invariant.6 policy u ex bl yi) (c.next_preemption-x.ensures.next ex bl yi c.loop-i.progressed ∙ ap (λ (z : NextPreemption). preemption_meant z (take c.loop-i.len c.loop-i.queue)) c.in-Nobody.is);
-      rest = c.loop-i.invariant.7;
-      queue = c.loop-i.invariant.4;
-      out = appended-room _ c.loop-i.invariant.5 (omega (arith, c.loop-i-test.true));
-    }
+  pass = λ policy u ex bl yi. rounds-rest (rules_of policy u c.args.cost c.args.prios.now) c.args.n _ _ _ _ c.loop-i.i (c.loop-i.invariant.6 policy u ex bl yi) (c.next_preemption-x.ensures.next ex bl yi c.loop-i.progressed ∙ ap (λ (z : NextPreemption). preemption_meant z (take c.loop-i.len c.loop-i.queue)) c.in-Nobody.is);
+  rest = c.loop-i.invariant.7;
+  queue = c.loop-i.invariant.4;
+  out = appended-room _ c.loop-i.invariant.5 (omega (arith, c.loop-i-test.true));
+}
 
 pub swap-t-requires : goal.swap-t-requires
 swap-t-requires c =
@@ -44,8 +44,7 @@ bounds-cs-v c =
 
 pub loop-i-preserved : goal.loop-i-preserved
 loop-i-preserved c =
-    let p = rw c.in-Of.is at c.next_preemption-x.ensures.placed in
-    (
+    let p = rw c.in-Of.is at c.next_preemption-x.ensures.placed in (
       omega (arith, c.loop-i-test.true),
       simp length-set c.loop-i.invariant.1,
       c.swap-t.auto.queue ∙ c.loop-i.invariant.2,
@@ -58,8 +57,8 @@ loop-i-preserved c =
 
 pub returns : goal.returns
 returns c = record {
-      pass = λ policy u ex bl yi. rounds-end (rules_of policy u c.args.cost c.args.prios.now) c.args.n _ _ _ _ c.loop-i.i (c.loop-i.invariant.6 policy u ex bl yi) c.loop-i-test.false;
-      rest = c.loop-i.invariant.7;
-      queue = c.loop-i.invariant.4;
-      out = appended-room _ c.loop-i.invariant.5 (omega (arith, c.loop-i.invariant.0));
-    }
+  pass = λ policy u ex bl yi. rounds-end (rules_of policy u c.args.cost c.args.prios.now) c.args.n _ _ _ _ c.loop-i.i (c.loop-i.invariant.6 policy u ex bl yi) c.loop-i-test.false;
+  rest = c.loop-i.invariant.7;
+  queue = c.loop-i.invariant.4;
+  out = appended-room _ c.loop-i.invariant.5 (omega (arith, c.loop-i.invariant.0));
+}

@@ -9,9 +9,9 @@ sliced_words-c0-requires c = growing c.args.s c.requires.1 c.requires.2 c.args.s
 
 pub returns-then-n-eq1 : goal.returns-then-n-eq1
 returns-then-n-eq1 c = record {
-      states = states-one c.args.s.states c.sliced_words-c0.result c.args.s.cores c.if-n-eq1.true c.sliced_words-c0.ensures.state;
-      words = λ h. λ i. record { c0 = c.sliced_words-c0.ensures.words (ap (λ (e : Eight). e.c0) h) i; c1 = ap (λ (e : Eight). e.c1) h i; c2 = ap (λ (e : Eight). e.c2) h i; c3 = ap (λ (e : Eight). e.c3) h i; c4 = ap (λ (e : Eight). e.c4) h i; c5 = ap (λ (e : Eight). e.c5) h i; c6 = ap (λ (e : Eight). e.c6) h i; c7 = ap (λ (e : Eight). e.c7) h i };
-    }
+  states = states-one c.args.s.states c.sliced_words-c0.result c.args.s.cores c.if-n-eq1.true c.sliced_words-c0.ensures.state;
+  words = λ h. λ i. record { c0 = c.sliced_words-c0.ensures.words (ap (λ (e : Eight). e.c0) h) i; c1 = ap (λ (e : Eight). e.c1) h i; c2 = ap (λ (e : Eight). e.c2) h i; c3 = ap (λ (e : Eight). e.c3) h i; c4 = ap (λ (e : Eight). e.c4) h i; c5 = ap (λ (e : Eight). e.c5) h i; c6 = ap (λ (e : Eight). e.c6) h i; c7 = ap (λ (e : Eight). e.c7) h i };
+}
 
 pub sliced_words-c1-requires : goal.sliced_words-c1-requires
 sliced_words-c1-requires c = growing c.args.s c.requires.1 c.requires.2 c.args.s.states.c1 1 refl

@@ -4,9 +4,9 @@ use Rattle.quiet.proofs.sliced_words.Goals as goal
 
 pub returns-then-n-i : goal.returns-then-n-i
 returns-then-n-i c = record {
-      state = kept _ _ _ c.if-n-i.true;
-      words = λ h. h;
-    }
+  state = kept _ _ _ c.if-n-i.true;
+  words = λ h. h;
+}
 
 pub overflow_add-result : goal.overflow_add-result
 overflow_add-result c = omega (arith, (c.requires c.if-n-i.false).1)

@@ -1,5 +1,4 @@
 -- The invariant: `at` is within the input, and no more cases than bytes have passed.
-use borrow.Author.Rules.{rules}
 use Prim.Native.Nat.{◌≤◌, ◌-◌}
 use lib.ListN.{length}
 use Rattle.settings_cases.proofs.run_cases.Given as goal

@@ -16,10 +16,10 @@ loop-k-init c = (search rules, refl)
 pub loop-k-preserved : goal.loop-k-preserved
 loop-k-preserved c = (
   search rules,
-  elim c.if-words-k.branch
-    [ then-words-k w ↦ w.found-is ∙ elem-hit c.args.word c.loop-k.k c.args.words _ (search rules) c.loop-k.invariant.1 w.if-words-k.true
+  elim c.if-words-k.branch [
+    | then-words-k w ↦ w.found-is ∙ elem-hit c.args.word c.loop-k.k c.args.words _ (search rules) c.loop-k.invariant.1 w.if-words-k.true
     | else-words-k w ↦ w.found-is ∙ elem-miss c.args.word c.loop-k.k c.args.words _ (search rules) c.loop-k.invariant.1 w.if-words-k.false
-    ],
+  ],
 )
 
 pub returns : goal.returns

@@ -31,13 +31,13 @@ returns-in-Idle c =
 
 pub returns-in-Switching : goal.returns-in-Switching
 returns-in-Switching c = record {
-      state = not-switching (core_state_meant c.args.s) _ _ (ap core_state_meant c.in-Switching.is) c.requires.1;
-      mark = not-switching (core_state_meant c.args.s) _ _ (ap core_state_meant c.in-Switching.is) c.requires.1;
-      left = not-switching (core_state_meant c.args.s) _ _ (ap core_state_meant c.in-Switching.is) c.requires.1;
-      moves = not-switching (core_state_meant c.args.s) _ _ (ap core_state_meant c.in-Switching.is) c.requires.1;
-      queue = not-switching (core_state_meant c.args.s) _ _ (ap core_state_meant c.in-Switching.is) c.requires.1;
-      out = not-switching (core_state_meant c.args.s) _ _ (ap core_state_meant c.in-Switching.is) c.requires.1;
-    }
+  state = not-switching (core_state_meant c.args.s) _ _ (ap core_state_meant c.in-Switching.is) c.requires.1;
+  mark = not-switching (core_state_meant c.args.s) _ _ (ap core_state_meant c.in-Switching.is) c.requires.1;
+  left = not-switching (core_state_meant c.args.s) _ _ (ap core_state_meant c.in-Switching.is) c.requires.1;
+  moves = not-switching (core_state_meant c.args.s) _ _ (ap core_state_meant c.in-Switching.is) c.requires.1;
+  queue = not-switching (core_state_meant c.args.s) _ _ (ap core_state_meant c.in-Switching.is) c.requires.1;
+  out = not-switching (core_state_meant c.args.s) _ _ (ap core_state_meant c.in-Switching.is) c.requires.1;
+}
 
 pub returns-in-Running : goal.returns-in-Running
 returns-in-Running c =

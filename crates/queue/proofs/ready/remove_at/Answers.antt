@@ -11,13 +11,12 @@ pub loop-i-init : goal.loop-i-init
 loop-i-init c = (search rules, search rules, search rules, sym (slid-start c.args.k c.args.queue.now))
 
 pub loop-i-preserved : goal.loop-i-preserved
-loop-i-preserved c =
-    (
-      search rules,
-      search rules,
-      simp length-set (search rules),
-      rw (c.loop-i.invariant.3, add-one) (slid-step c.args.k c.loop-i.i c.args.queue.now c.loop-i.invariant.0 (omega arith)),
-    )
+loop-i-preserved c = (
+  search rules,
+  search rules,
+  simp length-set (search rules),
+  rw (c.loop-i.invariant.3, add-one) (slid-step c.args.k c.loop-i.i c.args.queue.now c.loop-i.invariant.0 (omega arith)),
+)
 
 pub returns : goal.returns
 returns c =

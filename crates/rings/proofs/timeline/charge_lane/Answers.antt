@@ -13,10 +13,10 @@ use Rattle.rings.proofs.timeline.charge_lane.Goals as goal
 
 pub returns-then-len-eq0 : goal.returns-then-len-eq0
 returns-then-len-eq0 c = record {
-      ok = c.begin_segment.ensures.ok;
-      segments = c.begin_segment.ensures.segments ∙ ap (newest (capacity c.args.ring.now)) (begins-first c.args.ring.now c.args.pos c.args.tick.0 (lane_meant c.args.lane) c.if-len-eq0.true);
-      behind = c.begin_segment.ensures.behind;
-    }
+  ok = c.begin_segment.ensures.ok;
+  segments = c.begin_segment.ensures.segments ∙ ap (newest (capacity c.args.ring.now)) (begins-first c.args.ring.now c.args.pos c.args.tick.0 (lane_meant c.args.lane) c.if-len-eq0.true);
+  behind = c.begin_segment.ensures.behind;
+}
 
 pub returns-then-not-continues : goal.returns-then-not-continues
 returns-then-not-continues c =

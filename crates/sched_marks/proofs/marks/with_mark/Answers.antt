@@ -36,13 +36,12 @@ pub loop-k-init : goal.loop-k-init
 loop-k-init c = (search rules, search rules, λ h. absurd (omega (arith, h)), λ h. refl)
 
 pub loop-k-preserved : goal.loop-k-preserved
-loop-k-preserved c =
-    (
-      search rules,
-      simp length-set c.loop-k.invariant.1,
-      after c.args.i c.loop-k.m c.args.marks c.loop-k.k c.loop-k.invariant.2 c.loop-k.invariant.3 _ refl,
-      before c.args.i c.loop-k.m c.args.marks c.loop-k.k c.loop-k.invariant.2 c.loop-k.invariant.3 _ refl,
-    )
+loop-k-preserved c = (
+  search rules,
+  simp length-set c.loop-k.invariant.1,
+  after c.args.i c.loop-k.m c.args.marks c.loop-k.k c.loop-k.invariant.2 c.loop-k.invariant.3 _ refl,
+  before c.args.i c.loop-k.m c.args.marks c.loop-k.k c.loop-k.invariant.2 c.loop-k.invariant.3 _ refl,
+)
 
 pub returns : goal.returns
 returns c = c.loop-k.invariant.2 (omega (arith, c.requires, c.loop-k-test.false))

@@ -30,13 +30,13 @@ none b to l k =
 pub returns-then-text-i-clause-place : goal.returns-then-text-i-clause-place
 returns-then-text-i-clause-place c =
     let k : index_of c.args.b (slice c.loop-i.i c.args.to c.args.text.now) ≡ 0 =
-      rw (first c.loop-i.i c.args.to c.args.text.now c.loop-i-test.true c.requires.within) (here c.args.b _ _ c.if-text-i.true) in
+    rw (first c.loop-i.i c.args.to c.args.text.now c.loop-i-test.true c.requires.within) (here c.args.b _ _ c.if-text-i.true) in
     omega (arith, c.loop-i.invariant.2)
 
 pub loop-i-preserved : goal.loop-i-preserved
 loop-i-preserved c =
     let k : index_of c.args.b (slice c.loop-i.i c.args.to c.args.text.now) ≡ suc (index_of c.args.b (slice (c.loop-i.i + 1) c.args.to c.args.text.now)) =
-      rw (first c.loop-i.i c.args.to c.args.text.now c.loop-i-test.true c.requires.within) (next c.args.b _ _ c.if-text-i.false) in
+    rw (first c.loop-i.i c.args.to c.args.text.now c.loop-i-test.true c.requires.within) (next c.args.b _ _ c.if-text-i.false) in
     (omega arith, omega arith, omega (arith, c.loop-i.invariant.2))
 
 pub returns-clause-place : goal.returns-clause-place

@@ -24,24 +24,24 @@ running_stays i s t n e b y g q h = rw h
 
 pub returns-then-left-le1 : goal.returns-then-left-le1
 returns-then-left-le1 c = record {
-      turn = λ e b y g q. phase2-due c.args.core.0 _ _ _ (ap core_state_meant c.in-Switching.is) e b y g q (moves_in c.args.out.now c.args.count.now) c.if-left-le1.true _ c.push_move.ensures.moves;
-      out = c.push_move.ensures.out;
-    }
+  turn = λ e b y g q. phase2-due c.args.core.0 _ _ _ (ap core_state_meant c.in-Switching.is) e b y g q (moves_in c.args.out.now c.args.count.now) c.if-left-le1.true _ c.push_move.ensures.moves;
+  out = c.push_move.ensures.out;
+}
 
 pub returns-in-Idle : goal.returns-in-Idle
 returns-in-Idle c = record {
-      turn = λ e b y g q. stays (moves_in c.args.out.now c.args.count.now) (idle_stays c.args.core.0 c.args.s e b y g q c.in-Idle.is);
-      out = appended-none 1 c.args.count.now c.args.out.now;
-    }
+  turn = λ e b y g q. stays (moves_in c.args.out.now c.args.count.now) (idle_stays c.args.core.0 c.args.s e b y g q c.in-Idle.is);
+  out = appended-none 1 c.args.count.now c.args.out.now;
+}
 
 pub returns-else-left-le1 : goal.returns-else-left-le1
 returns-else-left-le1 c = record {
-      turn = λ e b y g q. phase2-less c.args.core.0 _ _ _ (ap core_state_meant c.in-Switching.is) e b y g q (moves_in c.args.out.now c.args.count.now) c.if-left-le1.false;
-      out = appended-none 1 c.args.count.now c.args.out.now;
-    }
+  turn = λ e b y g q. phase2-less c.args.core.0 _ _ _ (ap core_state_meant c.in-Switching.is) e b y g q (moves_in c.args.out.now c.args.count.now) c.if-left-le1.false;
+  out = appended-none 1 c.args.count.now c.args.out.now;
+}
 
 pub returns-in-Running : goal.returns-in-Running
 returns-in-Running c = record {
-      turn = λ e b y g q. stays (moves_in c.args.out.now c.args.count.now) (running_stays c.args.core.0 c.args.s c.in-Running.tid c.in-Running.slice e b y g q c.in-Running.is);
-      out = appended-none 1 c.args.count.now c.args.out.now;
-    }
+  turn = λ e b y g q. stays (moves_in c.args.out.now c.args.count.now) (running_stays c.args.core.0 c.args.s c.in-Running.tid c.in-Running.slice e b y g q c.in-Running.is);
+  out = appended-none 1 c.args.count.now c.args.out.now;
+}

@@ -37,17 +37,17 @@ returns-else-n-k c =
 pub returns-in-Switching : goal.returns-in-Switching
 unfolding filled
 returns-in-Switching c = record {
-      turn = λ u e b y. phase4-busy (rules_of c.args.policy u c.args.cost c.args.prios.now) c.args.core.0 (core_of c.args.s e b y (get_or c.args.progressed.now c.args.core.0 false)) (take c.args.len.now c.args.queue.now) (moves_in c.args.out.now c.args.count.now) (rw c.in-Switching.is);
-      besides = besides-same c.args.progressed.now c.args.core.0;
-      queue = no-longer-same c.args.len.now c.args.queue.now;
-      out = appended-none 2 c.args.count.now c.args.out.now;
-    }
+  turn = λ u e b y. phase4-busy (rules_of c.args.policy u c.args.cost c.args.prios.now) c.args.core.0 (core_of c.args.s e b y (get_or c.args.progressed.now c.args.core.0 false)) (take c.args.len.now c.args.queue.now) (moves_in c.args.out.now c.args.count.now) (rw c.in-Switching.is);
+  besides = besides-same c.args.progressed.now c.args.core.0;
+  queue = no-longer-same c.args.len.now c.args.queue.now;
+  out = appended-none 2 c.args.count.now c.args.out.now;
+}
 
 pub returns-in-Running : goal.returns-in-Running
 unfolding filled
 returns-in-Running c = record {
-      turn = λ u e b y. phase4-busy (rules_of c.args.policy u c.args.cost c.args.prios.now) c.args.core.0 (core_of c.args.s e b y (get_or c.args.progressed.now c.args.core.0 false)) (take c.args.len.now c.args.queue.now) (moves_in c.args.out.now c.args.count.now) (rw c.in-Running.is);
-      besides = besides-same c.args.progressed.now c.args.core.0;
-      queue = no-longer-same c.args.len.now c.args.queue.now;
-      out = appended-none 2 c.args.count.now c.args.out.now;
-    }
+  turn = λ u e b y. phase4-busy (rules_of c.args.policy u c.args.cost c.args.prios.now) c.args.core.0 (core_of c.args.s e b y (get_or c.args.progressed.now c.args.core.0 false)) (take c.args.len.now c.args.queue.now) (moves_in c.args.out.now c.args.count.now) (rw c.in-Running.is);
+  besides = besides-same c.args.progressed.now c.args.core.0;
+  queue = no-longer-same c.args.len.now c.args.queue.now;
+  out = appended-none 2 c.args.count.now c.args.out.now;
+}
