@@ -1,12 +1,14 @@
--- What the walks that read the records have made after i turns.
+-- What the loop that reads the records has made after i turns.
 use Prim.Native.Nat.{ℕ, ◌+◌, ◌-◌, ◌<◌, ◌≤◌}
 use native.Mathlib.Omega.{arith}
-use mathlib.Core.Path.{◌≡◌, refl, ap, subst, ◌∙◌}
+use mathlib.Core.Path.{◌≡◌, refl, sym, ap, subst, ◌∙◌}
 use mathlib.Core.List.{List, [], ◌++◌, map}
 use lib.ListN.{length, get_or, take, drop}
+use Rattle.std.proofs.lemmas.List.{get_or_default}
 use Rattle.model.specs.declared.ThreadInfo.{ThreadInfo}
 use Rattle.model.specs.Types.{ThreadRecord}
 use Rattle.model.specs.Reading.{thread_meant}
+use Rattle.record_reads.specs.declared.totals.Totals.{Totals}
 use Rattle.record_reads.specs.Totals.{totals_of, add_totals, TotalsFit}
 use Rattle.record_reads.proofs.Summing.{totals-back, totals-front}
 use Rattle.threads.specs.Slice.{blank, threads_in}
@@ -18,10 +20,10 @@ pub sums_none : (ts : List ThreadInfo) → totals_of [] ≡ totals_of (threads_i
 unfolding threads_in
 sums_none ts = refl
 
-pub sums_next : (ts : List ThreadInfo) (i : ℕ) → i < length ts → add_totals (totals_of (threads_in ts i)) (thread_meant (get_or ts i blank)) ≡ totals_of (threads_in ts (i + 1))
+sums_next : (ts : List ThreadInfo) (i : ℕ) → i < length ts → add_totals (totals_of (threads_in ts i)) (thread_meant (get_or ts i blank)) ≡ totals_of (threads_in ts (i + 1))
 sums_next ts i h = totals-back (threads_in ts i) (thread_meant (get_or ts i blank)) ∙ ap totals_of (threads-back ts i h)
 
-pub sums-fit : (ts : List ThreadInfo) (i n : ℕ) → i ≤ n → TotalsFit (totals_of (threads_in ts n)) → TotalsFit (totals_of (threads_in ts i))
+sums-fit : (ts : List ThreadInfo) (i n : ℕ) → i ≤ n → TotalsFit (totals_of (threads_in ts n)) → TotalsFit (totals_of (threads_in ts i))
 sums-fit ts i n h g = totals-front (threads_in ts i) (map thread_meant (take (n - i) (drop i ts))) (subst (λ (l : List ThreadRecord). TotalsFit (totals_of l)) parts g)
   where
     back : (i n : ℕ) → i ≤ n → n ≡ i + (n - i)
@@ -29,3 +31,10 @@ sums-fit ts i n h g = totals-front (threads_in ts i) (map thread_meant (take (n 
 
     parts : threads_in ts n ≡ threads_in ts i ++ map thread_meant (take (n - i) (drop i ts))
     parts = ap (threads_in ts) (back i n h) ∙ threads-add ts i (n - i)
+
+pub turn-sums : (ts : List ThreadInfo) (i : ℕ) (d : ThreadInfo) (sums : Totals) → i < length ts → sums ≡ totals_of (threads_in ts i) → add_totals sums (thread_meant (get_or ts i d)) ≡ totals_of (threads_in ts (i + 1))
+turn-sums ts i d sums h e = rw (e, get_or_default ts i d blank h) (sums_next ts i h)
+
+-- the sums so far have room for the next record
+pub turn-fits : (ts : List ThreadInfo) (i n : ℕ) (d : ThreadInfo) (sums : Totals) → i < n → n ≤ length ts → sums ≡ totals_of (threads_in ts i) → TotalsFit (totals_of (threads_in ts n)) → TotalsFit (add_totals sums (thread_meant (get_or ts i d)))
+turn-fits ts i n d sums h within e fit = subst TotalsFit (sym (turn-sums ts i d sums (omega arith) e)) (sums-fit ts (i + 1) n (omega arith) fit)

@@ -1,22 +1,20 @@
--- What the walks leave in the slice, read as the definition's list of threads.
+-- What the functions leave in the slice, read as the definition's list of threads.
 use Prim.Native.Nat.{ℕ, zero, suc, ◌+◌, ◌<◌, ◌≤◌, ◌-◌}
-use mathlib.Core.Path.{◌≡◌, refl, sym, ap, ◌∙◌}
+use mathlib.Core.Path.{◌≡◌, refl, sym, ap, subst, ◌∙◌}
 use mathlib.Core.List.{List, [], ◌∷◌, ◌++◌, map, map-append}
 use native.Mathlib.Nat.{add-zero, zero-add, not-suc-le-zero, le_of_suc-le-suc}
 use native.Mathlib.Numerals.{add-one}
 use native.Mathlib.Omega.{arith}
 use mathlib.Core.Option.{some}
 use lib.ListN.{length, get_or, get_elem?, set, take, drop, length-take, length-map, length-append, length-drop, take-append-drop}
-use lib.Seq.{drop-set-lt, take-set-lt, get_or-take, take-suc, take-suc-set, take-add, length-take-le, take_at, drop_at}
+use Rattle.std.proofs.lemmas.List.{get_or-drop, get_or_default}
+use lib.Seq.{drop-set-lt, drop-drop, take-set-lt, get_or-take, take-suc, take-suc-set, take-add, length-take-le, take_at, drop_at}
 use Rattle.model.specs.declared.ThreadInfo.{ThreadInfo}
-use Rattle.model.specs.declared.CoreState.{CoreState}
 use Rattle.model.specs.Types.{Core, ThreadRecord}
 use Rattle.model.specs.Phases
 use Rattle.model.specs.Reading.{thread_meant}
 use Rattle.model.specs.Accounting.{charge_threads}
-use Rattle.charges.specs.Charging.{cores_meant, charge_thread}
-use Rattle.walkkit.specs.Firsts.{firsts}
-use Rattle.walkkit.proofs.Firsts.{drop-firsts}
+use Rattle.charges.specs.Charging.{charge_thread}
 use Rattle.threads.specs.Slice.{blank, threads_in, Front}
 use Rattle.threads.proofs.Inverse.{thread_of, is-thread_of, thread-back, thread-there}
 
@@ -80,37 +78,59 @@ front-set f i ts h n l =
       rest = drop-set-lt n ts i (changed_by f (get_or ts i blank)) l;
     }
 
+-- the same for a record z that reads as what f makes of record i
+pub front-stored : (f : ThreadRecord → ThreadRecord) (i : ℕ) (ts : List ThreadInfo) (d z : ThreadInfo) → i < length ts → thread_meant z ≡ f (thread_meant (get_or ts i d)) → (n : ℕ) → i < n → Front n (Phases.update i f (threads_in ts n)) ts (set ts i z)
+front-stored f i ts d z h e n l =
+    let z-is : z ≡ changed_by f (get_or ts i blank) = is-changed f (get_or ts i blank) z (e ∙ ap (λ (t : ThreadInfo). f (thread_meant t)) (get_or_default ts i d blank h)) in
+    subst (λ (x : ThreadInfo). Front n (Phases.update i f (threads_in ts n)) ts (set ts i x)) (sym z-is) (front-set f i ts h n l)
+
+---- one record more, as a loop stores it
+
+-- the record behind the first n is as it was, whatever stands past the end
+pub get-behind : (n : ℕ) (wanted : List ThreadRecord) (before after : List ThreadInfo) (d : ThreadInfo) → n < length after → Front n wanted before after → get_or after n d ≡ get_or before n blank
+get-behind n wanted before after d h f = get_or_default after n d blank h ∙ (from-drop after ∙ (ap (λ (l : List ThreadInfo). get_or l 0 blank) f.rest ∙ sym (from-drop before)))
+  where
+    from-drop : (l : List ThreadInfo) → get_or l n blank ≡ get_or (drop n l) 0 blank
+    from-drop l = sym (get_or-drop n l 0 blank ∙ ap (λ (k : ℕ). get_or l k blank) (add-zero n))
+
+pub kept-behind : (P : ThreadRecord → Type 0) (n : ℕ) (wanted : List ThreadRecord) (before after : List ThreadInfo) (d : ThreadInfo) → n < length after → Front n wanted before after → P (thread_meant (get_or before n blank)) → P (thread_meant (get_or after n d))
+kept-behind P n wanted before after d h f p = subst (λ (t : ThreadInfo). P (thread_meant t)) (sym (get-behind n wanted before after d h f)) p
+
+-- f makes of it what it would have made before
+pub front-next : (f : ThreadRecord → ThreadRecord) (n : ℕ) (wanted : List ThreadRecord) (before after : List ThreadInfo) (d z : ThreadInfo) → n < length after → thread_meant z ≡ f (thread_meant (get_or after n d)) → Front n wanted before after
+    → Front (n + 1) (wanted ++ (f (thread_meant (get_or before n blank)) ∷ [])) before (set after n z)
+front-next f n wanted before after d z h e was =
+    record {
+      front = threads-set after n z h ∙ rw (was.front, e ∙ ap (λ (t : ThreadInfo). f (thread_meant t)) (get-behind n wanted before after d h was));
+      rest = drop-set-lt (n + 1) after n z (omega arith) ∙ (sym (drop-drop 1 n after) ∙ (ap (drop 1) was.rest ∙ drop-drop 1 n before));
+    }
+
 ---- every record charged
 
--- record i after a tick in which the cores were as `cores` says
-unfoldable pub charged_at : List CoreState → ℕ → ThreadInfo → ThreadInfo
-charged_at cores i t = changed_by (charge_thread (cores_meant cores) i) t
-
-pub is-charged : (cores : List CoreState) (i : ℕ) (t r : ThreadInfo) → thread_meant r ≡ charge_thread (cores_meant cores) i (thread_meant t) → r ≡ charged_at cores i t
-unfolding charged_at
-is-charged cores i t r e = is-changed (charge_thread (cores_meant cores) i) t r e
-
-charge-firsts : (cs : List Core) (g : ℕ → ThreadInfo → ThreadInfo) (i n : ℕ) (ts : List ThreadInfo) → ((j : ℕ) (t : ThreadInfo) → thread_meant (g j t) ≡ charge_thread cs (i + j) (thread_meant t))
-    → map thread_meant (take n (firsts g n ts)) ≡ charge_threads cs i (map thread_meant (take n ts))
-unfolding firsts charge_threads charge_thread
-charge-firsts cs g i zero ts h = refl
-charge-firsts cs g i (suc n) [] h = refl
-charge-firsts cs g i (suc n) (t ∷ ts) h =
-    let head : thread_meant (g 0 t) ≡ charge_thread cs i (thread_meant t) = rw add-zero at (h 0 t) in
-    let tail : map thread_meant (take n (firsts (λ j. g (suc j)) n ts)) ≡ charge_threads cs (suc i) (map thread_meant (take n ts)) =
-    charge-firsts cs (λ j. g (suc j)) (suc i) n ts (λ j t. h (suc j) t ∙ ap (λ (k : ℕ). charge_thread cs k (thread_meant t)) (moved i j)) in
-    rw (head, tail)
+charged-back : (cs : List Core) (i : ℕ) (ts : List ThreadRecord) (t : ThreadRecord) → charge_threads cs i (ts ++ (t ∷ [])) ≡ charge_threads cs i ts ++ (charge_thread cs (i + length ts) t ∷ [])
+unfolding charge_threads charge_thread
+charged-back cs i [] t = rw add-zero
+charged-back cs i (h ∷ ts) t = rw (charged-back cs (suc i) ts t, moved i (length ts))
   where
-    moved : (i j : ℕ) → i + suc j ≡ suc i + j
+    moved : (i j : ℕ) → suc i + j ≡ i + suc j
     moved i j = omega arith
 
-pub front-charged : (cores : List CoreState) (n : ℕ) (ts : List ThreadInfo) → Front n (charge_threads (cores_meant cores) 0 (threads_in ts n)) ts (firsts (charged_at cores) n ts)
-unfolding threads_in charged_at
-front-charged cores n ts =
-    record {
-      front = charge-firsts (cores_meant cores) (charged_at cores) 0 n ts (λ j t. changed-meant (charge_thread (cores_meant cores) j) t ∙ ap (λ (k : ℕ). charge_thread (cores_meant cores) k (thread_meant t)) (sym (zero-add j)));
-      rest = drop-firsts (charged_at cores) n ts;
-    }
+pub front-charged-none : (cs : List Core) (ts : List ThreadInfo) → Front 0 (charge_threads cs 0 (threads_in ts 0)) ts ts
+unfolding threads_in charge_threads
+front-charged-none cs ts = record { front = refl; rest = refl }
+
+pub front-charged-next : (cs : List Core) (i : ℕ) (before after : List ThreadInfo) (d z : ThreadInfo) → i < length before → length after ≡ length before → thread_meant z ≡ charge_thread cs i (thread_meant (get_or after i d))
+    → Front i (charge_threads cs 0 (threads_in before i)) before after → Front (i + 1) (charge_threads cs 0 (threads_in before (i + 1))) before (set after i z)
+front-charged-next cs i before after d z h long e was =
+    subst (λ (w : List ThreadRecord). Front (i + 1) w before (set after i z)) (sym wanted) (front-next (charge_thread cs i) i _ before after d z (omega arith) e was)
+  where
+    t : ThreadRecord
+    t = thread_meant (get_or before i blank)
+
+    wanted : charge_threads cs 0 (threads_in before (i + 1)) ≡ charge_threads cs 0 (threads_in before i) ++ (charge_thread cs i t ∷ [])
+    wanted =
+        ap (charge_threads cs 0) (sym (threads-back before i h)) ∙ (charged-back cs 0 (threads_in before i) t
+        ∙ ap (λ (k : ℕ). charge_threads cs 0 (threads_in before i) ++ (charge_thread cs k t ∷ [])) (zero-add (length (threads_in before i)) ∙ length-threads before i (omega arith)))
 
 ---- the slice that a contract leaves, as one list: what a caller that lends the slice again goes on with
 

@@ -1,13 +1,13 @@
 -- What the first i turns of waking make of the records and of the queue.
-use Prim.Native.Nat.{ℕ, zero, suc, ◌+◌, ◌-◌, ◌<◌, ◌≤◌}
-use mathlib.Core.Path.{◌≡◌, refl, sym, ap, ◌∙◌}
+use Prim.Native.Nat.{ℕ, suc, ◌+◌, ◌-◌, ◌<◌, ◌≤◌}
+use mathlib.Core.Path.{◌≡◌, refl, sym, ap, subst, ◌∙◌}
 use mathlib.Core.Bool.{Bool, true, false, cond}
-use mathlib.Core.List.{List, [], ◌∷◌, ◌++◌, map, append_assoc, append-nil}
+use mathlib.Core.List.{List, [], ◌∷◌, ◌++◌, map, map-append, append_assoc, append-nil}
 use native.Mathlib.Nat.{add-zero, zero-add}
 use native.Mathlib.Numerals.{add-one}
 use native.Mathlib.Omega.{arith}
-use lib.ListN.{length, get_or, take, drop, length-append, length-drop, take-append-drop}
-use lib.Seq.{take_at, drop_at, length-take-le, drop-drop, append_snoc}
+use lib.ListN.{length, get_or, set, take, drop, length-append}
+use lib.Seq.{drop-drop, append_snoc}
 use Rattle.model.specs.declared.ThreadInfo.{ThreadInfo}
 use Rattle.model.specs.Types.{ThreadRecord, Ready, Accounts}
 use Rattle.model.specs.Phases
@@ -15,10 +15,8 @@ use Rattle.model.specs.Accounting.{set_state, logged}
 use Rattle.model.specs.Calls.{blocked_on, waiters, wake}
 use Rattle.model.specs.Reading.{thread_meant}
 use Rattle.records.specs.Waking.{woken_by, waiter_at, Pushed}
-use Rattle.walkkit.specs.Firsts.{firsts}
-use Rattle.walkkit.proofs.Firsts.{drop-firsts}
 use Rattle.threads.specs.Slice.{blank, threads_in, Front, WakeFit, woken_threads, Woken}
-use Rattle.threads.proofs.Slices.{changed_by, is-changed, changed-meant, threads-add, threads-back, length-threads, length-update}
+use Rattle.threads.proofs.Slices.{threads-add, threads-back, length-threads, length-update, get-behind, kept-behind, front-next}
 
 ---- the records
 
@@ -73,68 +71,6 @@ woken-from on front (h ∷ ts) = by-test (λ x. woken-from on (front ++ (x ∷ [
         ap (λ (b : Bool). woken_threads (cond b (length front ∷ later) later) (front ++ h ∷ ts)) e
         ∙ (next rest h ∙ ap (λ (x : ThreadRecord). front ++ x ∷ map (woken_by on) ts) (sym (woken-miss on h e)))
 
--- record i with the waiters for `on` woken
-unfoldable pub woken_at : (on i : ℕ) → ThreadInfo → ThreadInfo
-woken_at on i t = changed_by (woken_by on) t
-
-pub is-woken : (on i : ℕ) (t r : ThreadInfo) → thread_meant r ≡ woken_by on (thread_meant t) → r ≡ woken_at on i t
-unfolding woken_at
-is-woken on i t r e = is-changed (woken_by on) t r e
-
-woken-firsts : (f : ThreadRecord → ThreadRecord) (n : ℕ) (ts : List ThreadInfo) → map thread_meant (take n (firsts (λ i. changed_by f) n ts)) ≡ map f (map thread_meant (take n ts))
-unfolding firsts
-woken-firsts f zero ts = refl
-woken-firsts f (suc n) [] = refl
-woken-firsts f (suc n) (t ∷ ts) = rw (changed-meant f t, woken-firsts f n ts)
-
-pub front-woken : (on n : ℕ) (ts : List ThreadInfo) → Front n (woken_threads (waiters on 0 (threads_in ts n)) (threads_in ts n)) ts (firsts (woken_at on) n ts)
-unfolding threads_in woken_at
-front-woken on n ts =
-    record {
-      front = woken-firsts (woken_by on) n ts ∙ sym (woken-from on [] (map thread_meant (take n ts)));
-      rest = drop-firsts (woken_at on) n ts;
-    }
-
----- the queue
-
--- words behind the first len of a list, over what stood there
-unfoldable pub pushed_by : (words : List ℕ) (len : ℕ) → List ℕ → List ℕ
-pushed_by ws len q = (take len q ++ ws) ++ drop (len + length ws) q
-
-pub is-pushed : (ws : List ℕ) (len : ℕ) (q : List ℕ) (r : ℕ) (q' : List ℕ) → Pushed ws len q r q' → q' ≡ pushed_by ws len q
-unfolding pushed_by
-is-pushed ws len q r q' p = sym (take-append-drop r q') ∙ rw (p.front, p.rest, p.count)
-
-module _ (ws : List ℕ) (len : ℕ) (q : List ℕ) (room : len + length ws ≤ length q) where
-  front_long : length (take len q ++ ws) ≡ len + length ws
-  front_long = length-append (take len q) ws ∙ ap (λ (k : ℕ). k + length ws) (length-take-le len q (omega arith))
-
-  pub pushed-is : Pushed ws len q (len + length ws) (pushed_by ws len q)
-  unfolding pushed_by
-  pushed-is = record { count = refl; front = take_at (take len q ++ ws) (drop (len + length ws) q) (len + length ws) front_long; rest = drop_at (take len q ++ ws) (drop (len + length ws) q) (len + length ws) front_long }
-
-  pub length-pushed : length (pushed_by ws len q) ≡ length q
-  unfolding pushed_by
-  length-pushed =
-      let a : length ((take len q ++ ws) ++ drop (len + length ws) q) ≡ length (take len q ++ ws) + length (drop (len + length ws) q) = length-append (take len q ++ ws) (drop (len + length ws) q) in
-      let b : length (drop (len + length ws) q) ≡ length q - (len + length ws) = length-drop (len + length ws) q in
-      let c : length (take len q ++ ws) ≡ len + length ws = front_long in
-      omega arith
-
-  pushed_more : (vs : List ℕ) → pushed_by vs (len + length ws) (pushed_by ws len q) ≡ pushed_by (ws ++ vs) len q
-  unfolding pushed_by
-  pushed_more vs =
-      let t : take (len + length ws) ((take len q ++ ws) ++ drop (len + length ws) q) ≡ take len q ++ ws = take_at (take len q ++ ws) (drop (len + length ws) q) (len + length ws) front_long in
-      let d : drop (len + length ws + length vs) ((take len q ++ ws) ++ drop (len + length ws) q) ≡ drop (len + length (ws ++ vs)) q =
-      sym (drop-drop (length vs) (len + length ws) ((take len q ++ ws) ++ drop (len + length ws) q))
-      ∙ (ap (drop (length vs)) (drop_at (take len q ++ ws) (drop (len + length ws) q) (len + length ws) front_long)
-      ∙ (drop-drop (length vs) (len + length ws) q ∙ ap (λ (k : ℕ). drop k q) (sum ws vs))) in
-      ap (λ (x : List ℕ). (x ++ vs) ++ drop (len + length ws + length vs) ((take len q ++ ws) ++ drop (len + length ws) q)) t
-      ∙ (ap (λ (x : List ℕ). ((take len q ++ ws) ++ vs) ++ x) d ∙ ap (λ (x : List ℕ). x ++ drop (len + length (ws ++ vs)) q) (append_assoc (take len q) ws vs))
-    where
-      sum : (ws vs : List ℕ) → len + length ws + length vs ≡ len + length (ws ++ vs)
-      sum ws vs = let a : length (ws ++ vs) ≡ length ws + length vs = length-append ws vs in omega arith
-
 ---- the waiters, one thread more at a time
 
 waiters-append : (on j : ℕ) (a b : List ThreadRecord) → waiters on j (a ++ b) ≡ waiters on j a ++ waiters on (j + length a) b
@@ -176,43 +112,56 @@ waiters-fewer on ts i n h =
     back : (i n : ℕ) → i ≤ n → n ≡ i + (n - i)
     back i n h = omega arith
 
-module _ (n on : ℕ) (ts : List ThreadInfo) (q : List ℕ) (len : ℕ) (fit : WakeFit n on ts q len) (i : ℕ) where
-  pub so_far : i ≤ n → len + length (woken_in on ts i) ≤ length q
-  so_far h =
-      let f : length (woken_in on ts i) ≤ length (woken_in on ts n) = waiters-fewer on ts i n h in
-      omega (arith, fit.room)
+-- turn i has room for its waiter
+push-fits : (n on : ℕ) (ts : List ThreadInfo) (q : List ℕ) (len i : ℕ) → WakeFit n on ts q len → i < n → len + length (woken_in on ts i) + length (waiter_at on i (thread_meant (get_or ts i blank))) ≤ length q
+push-fits n on ts q len i fit h =
+    let w : length (woken_in on ts i ++ waiter_at on i (thread_meant (get_or ts i blank))) ≡ length (woken_in on ts (i + 1)) = ap length (waiters-next on ts i (omega (arith, fit.within))) in
+    let a : length (woken_in on ts i ++ waiter_at on i (thread_meant (get_or ts i blank))) ≡ length (woken_in on ts i) + length (waiter_at on i (thread_meant (get_or ts i blank))) = length-append (woken_in on ts i) (waiter_at on i (thread_meant (get_or ts i blank))) in
+    let f : length (woken_in on ts (i + 1)) ≤ length (woken_in on ts n) = waiters-fewer on ts (i + 1) n (omega arith) in
+    omega (arith, fit.room)
 
-  pub queue_long : i ≤ n → length (pushed_by (woken_in on ts i) len q) ≡ length q
-  queue_long h = length-pushed (woken_in on ts i) len q (so_far h)
+---- one turn of the loop after another
 
-  -- turn i has room for its waiter, and leaves the queue and its length as the next turn wants them
-  pub push-fits : i < n → len + length (woken_in on ts i) + length (waiter_at on i (thread_meant (get_or ts i blank))) ≤ length (pushed_by (woken_in on ts i) len q)
-  push-fits h =
-      let w : length (woken_in on ts i ++ waiter_at on i (thread_meant (get_or ts i blank))) ≡ length (woken_in on ts (i + 1)) = ap length (waiters-next on ts i (omega (arith, fit.within))) in
-      let a : length (woken_in on ts i ++ waiter_at on i (thread_meant (get_or ts i blank))) ≡ length (woken_in on ts i) + length (waiter_at on i (thread_meant (get_or ts i blank))) = length-append (woken_in on ts i) (waiter_at on i (thread_meant (get_or ts i blank))) in
-      let f : length (woken_in on ts (i + 1)) ≤ length (woken_in on ts n) = waiters-fewer on ts (i + 1) n (omega arith) in
-      let l : length (pushed_by (woken_in on ts i) len q) ≡ length q = queue_long (omega arith) in
-      omega (arith, fit.room)
+-- words pushed behind words
+pushed-then : (ws vs : List ℕ) (len to to' : ℕ) (q q₁ q₂ : List ℕ) → Pushed ws len q to q₁ → Pushed vs to q₁ to' q₂ → Pushed (ws ++ vs) len q to' q₂
+pushed-then ws vs len to to' q q₁ q₂ f g =
+    record {
+      count = omega (arith, f.count, g.count, length-append ws vs);
+      front = g.front ∙ (ap (λ (l : List ℕ). l ++ vs) f.front ∙ append_assoc (take len q) ws vs);
+      rest = g.rest ∙ rw g.count (sym (drop-drop (length vs) to q₁) ∙ (ap (drop (length vs)) f.rest ∙ drop-drop (length vs) to q));
+    }
 
-  module _ (h : i < n) (r : ℕ) (q' : List ℕ) (p : Pushed (waiter_at on i (thread_meant (get_or ts i blank))) (len + length (woken_in on ts i)) (pushed_by (woken_in on ts i) len q) r q') where
-    pub next-length : r ≡ len + length (woken_in on ts (i + 1))
-    next-length =
-        let w : length (woken_in on ts i ++ waiter_at on i (thread_meant (get_or ts i blank))) ≡ length (woken_in on ts (i + 1)) = ap length (waiters-next on ts i (omega (arith, fit.within))) in
-        let a : length (woken_in on ts i ++ waiter_at on i (thread_meant (get_or ts i blank))) ≡ length (woken_in on ts i) + length (waiter_at on i (thread_meant (get_or ts i blank))) = length-append (woken_in on ts i) (waiter_at on i (thread_meant (get_or ts i blank))) in
-        omega (arith, p.count)
+pub none-woken : (on : ℕ) (ts : List ThreadInfo) (len : ℕ) (q : List ℕ) → Woken 0 on ts ts len q len q
+unfolding threads_in waiters woken_threads
+none-woken on ts len q =
+    record { threads = record { front = refl; rest = refl }; queued = record { count = sym (add-zero len); front = sym (append-nil (take len q)); rest = refl } }
 
-    pub next-queue : q' ≡ pushed_by (woken_in on ts (i + 1)) len q
-    next-queue =
-        is-pushed (waiter_at on i (thread_meant (get_or ts i blank))) (len + length (woken_in on ts i)) (pushed_by (woken_in on ts i) len q) r q' p
-        ∙ (pushed_more (woken_in on ts i) len q (so_far (omega arith)) (waiter_at on i (thread_meant (get_or ts i blank))) ∙ ap (λ (ws : List ℕ). pushed_by ws len q) (waiters-next on ts i (omega (arith, fit.within))))
+pub woken-next : (on i : ℕ) (before after : List ThreadInfo) (d z : ThreadInfo) (len : ℕ) (q : List ℕ) (to : ℕ) (q₁ : List ℕ) (to' : ℕ) (q₂ : List ℕ) → i < length before → length after ≡ length before
+    → thread_meant z ≡ woken_by on (thread_meant (get_or after i d)) → Pushed (waiter_at on i (thread_meant (get_or after i d))) to q₁ to' q₂
+    → Woken i on before after len q to q₁ → Woken (i + 1) on before (set after i z) len q to' q₂
+woken-next on i before after d z len q to q₁ to' q₂ h long e p was =
+    record {
+      threads = subst (λ (w : List ThreadRecord). Front (i + 1) w before (set after i z)) (sym wanted) (front-next (woken_by on) i _ before after d z (omega arith) e was.threads);
+      queued =
+          subst (λ (ws : List ℕ). Pushed ws len q to' q₂) (waiters-next on before i h) (
+          pushed-then (woken_in on before i) _ len to to' q q₁ q₂ was.queued (subst (λ (x : ThreadInfo). Pushed (waiter_at on i (thread_meant x)) to q₁ to' q₂) (get-behind i _ before after d (omega arith) was.threads) p)
+          );
+    }
+  where
+    all : (ts : List ThreadRecord) → woken_threads (waiters on 0 ts) ts ≡ map (woken_by on) ts
+    all ts = woken-from on [] ts
 
-pub pushed_none : (on : ℕ) (ts : List ThreadInfo) (q : List ℕ) (len : ℕ) → pushed_by (woken_in on ts 0) len q ≡ q
-unfolding pushed_by threads_in waiters
-pushed_none on ts q len = rw (append-nil, add-zero) (take-append-drop len q)
+    wanted : woken_threads (woken_in on before (i + 1)) (threads_in before (i + 1)) ≡ woken_threads (woken_in on before i) (threads_in before i) ++ (woken_by on (thread_meant (get_or before i blank)) ∷ [])
+    wanted =
+        all (threads_in before (i + 1)) ∙ (ap (map (woken_by on)) (sym (threads-back before i h))
+        ∙ (map-append (woken_by on) (threads_in before i) (thread_meant (get_or before i blank) ∷ [])
+        ∙ ap (λ (l : List ThreadRecord). l ++ (woken_by on (thread_meant (get_or before i blank)) ∷ [])) (sym (all (threads_in before i)))))
 
-pub none_yet_lem : (on : ℕ) (ts : List ThreadInfo) (len : ℕ) → len + length (woken_in on ts 0) ≡ len
-unfolding threads_in waiters
-none_yet_lem on ts len = add-zero len
-
-pub all-woken : (n on : ℕ) (ts : List ThreadInfo) (q : List ℕ) (len : ℕ) → WakeFit n on ts q len → Woken n on ts (firsts (woken_at on) n ts) len q (len + length (woken_in on ts n)) (pushed_by (woken_in on ts n) len q)
-all-woken n on ts q len fit = record { threads = front-woken on n ts; queued = pushed-is (woken_in on ts n) len q fit.room }
+-- what a turn requires of the queue
+pub turn-fits : (n on : ℕ) (before after : List ThreadInfo) (d : ThreadInfo) (len : ℕ) (q : List ℕ) (i to : ℕ) (q₁ : List ℕ) → WakeFit n on before q len → i < n → length after ≡ length before → length q₁ ≡ length q
+    → Woken i on before after len q to q₁ → (i < 4294967296) × (to + length (waiter_at on i (thread_meant (get_or after i d))) ≤ length q₁)
+turn-fits n on before after d len q i to q₁ fit h long long' was =
+    (
+      omega (arith, fit.few),
+      kept-behind (λ t. to + length (waiter_at on i t) ≤ length q₁) i _ before after d (omega (arith, fit.within)) was.threads (omega (arith, push-fits n on before q len i fit h, was.queued.count)),
+    )
