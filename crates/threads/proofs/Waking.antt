@@ -160,8 +160,7 @@ woken-next on i before after d z len q to q₁ to' q₂ h long e p was =
 -- what a turn requires of the queue
 pub turn-fits : (n on : ℕ) (before after : List ThreadInfo) (d : ThreadInfo) (len : ℕ) (q : List ℕ) (i to : ℕ) (q₁ : List ℕ) → WakeFit n on before q len → i < n → length after ≡ length before → length q₁ ≡ length q
     → Woken i on before after len q to q₁ → (i < 4294967296) × (to + length (waiter_at on i (thread_meant (get_or after i d))) ≤ length q₁)
-turn-fits n on before after d len q i to q₁ fit h long long' was =
-    (
-      omega (arith, fit.few),
-      kept-behind (λ t. to + length (waiter_at on i t) ≤ length q₁) i _ before after d (omega (arith, fit.within)) was.threads (omega (arith, push-fits n on before q len i fit h, was.queued.count)),
-    )
+turn-fits n on before after d len q i to q₁ fit h long long' was = (
+  omega (arith, fit.few),
+  kept-behind (λ t. to + length (waiter_at on i t) ≤ length q₁) i _ before after d (omega (arith, fit.within)) was.threads (omega (arith, push-fits n on before q len i fit h, was.queued.count)),
+)

@@ -11,8 +11,7 @@ pub charged-requires : goal.charged-requires
 charged-requires c = kept-behind (Chargeable c.loop-i.i) c.loop-i.i _ c.args.threads.now c.loop-i.threads _ (omega arith) c.loop-i.invariant.1 (c.requires.1 c.loop-i.i c.loop-i-test.true)
 
 pub loop-i-preserved : goal.loop-i-preserved
-loop-i-preserved c =
-    (
-      omega arith,
-      front-charged-next (cores_meant c.args.cores) c.loop-i.i c.args.threads.now c.loop-i.threads _ c.charged.result (omega arith) c.loop-i.auto.threads (c.charged.ensures c.args.cores c.core_threads-on.ensures) c.loop-i.invariant.1,
-    )
+loop-i-preserved c = (
+  omega arith,
+  front-charged-next (cores_meant c.args.cores) c.loop-i.i c.args.threads.now c.loop-i.threads _ c.charged.result (omega arith) c.loop-i.auto.threads (c.charged.ensures c.args.cores c.core_threads-on.ensures) c.loop-i.invariant.1,
+)
