@@ -4,7 +4,7 @@
 
 ghost use Rattle.std.specs.Prelude.{◌≡◌, ◌≤◌, length};
 ghost use Rattle.walkkit.specs.Firsts.{firsts};
-ghost use Rattle.state.specs.Memory.{lent};
+ghost use Rattle.state.specs.Memory.{memory};
 ghost use Rattle.new_plan.specs.Made.{same_at, NewDone};
 
 use model::ThreadInfo;
@@ -37,8 +37,8 @@ pub fn new(
     log: &mut [u64],
     lanes: &[u64],
 ) -> Created
-    ensures { NewDone config cores capacities entry_pc (lent threads.entry queue.entry prios.entry log.entry lanes.entry)
-        (lent threads.exit queue.entry prios.exit log.exit lanes.entry) result.sched result.answer }
+    ensures { NewDone config cores capacities entry_pc (memory threads.old queue.now prios.old log.old lanes.now)
+        (memory threads.new queue.now prios.new log.new lanes.now) result.sched result.answer }
 {
     let answer = check_new(
         config,

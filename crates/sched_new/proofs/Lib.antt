@@ -1,2 +1,0 @@
-pub mod At
-pub mod Types
