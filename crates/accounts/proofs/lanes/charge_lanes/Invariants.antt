@@ -1,0 +1,15 @@
+use borrow.Author.Rules.{rules}
+use native.Mathlib.Omega.{arith}
+use Prim.Native.Nat.{◌+◌, ◌*◌, ◌-◌, ◌≤◌}
+use mathlib.Core.Path.{◌≡◌, refl, sym, ◌∙◌}
+use lib.ListN.{length, length-set}
+use Rattle.state.specs.State.{lane_start}
+use Rattle.accounts.specs.Charging.{LanesCharged}
+use Rattle.accounts.proofs.Timelines.{lanes-none, lanes_next, lanes-same, lanes_end, next-ok, next_start, lane_inside, same-pos}
+use Rattle.accounts.proofs.lanes.charge_lanes.Given as goal
+
+abbrev pub invariant-loop-i : goal.invariant-loop-i
+invariant-loop-i l = (l.i ≤ l.n) × (length l.charged ≡ 8) × (l.start ≡ lane_start l.capacity l.i) × LanesCharged l.capacity l.i l.tick.0 l.states l.initial.lanes l.lanes l.initial.charged l.charged
+
+abbrev pub decreases-loop-i : goal.decreases-loop-i
+decreases-loop-i l = 8 - l.i
