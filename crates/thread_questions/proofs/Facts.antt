@@ -2,7 +2,7 @@
 use Prim.Native.Nat.{ℕ, zero, suc, ◌<◌, ◌≤◌}
 use mathlib.Core.Path.{◌≡◌, refl, sym, ap, subst, ◌∙◌}
 use mathlib.Core.Bool.{Bool, not}
-use mathlib.Core.Option.{Option, none, some}
+use mathlib.Core.Option.{none, some}
 use mathlib.Core.List.{List, [], ◌∷◌, map}
 use native.Mathlib.Omega.{arith}
 use lib.Dec.{T as Holds, ltb, ltb→lt, nltb→le}
@@ -48,9 +48,6 @@ module _ (s : Sched) (ts : List ThreadInfo) where
   in-use-within : (m : Memory) → Valid s m → the_threads ts m → s.threads ≤ length ts
   in-use-within m v e = subst (λ (us : List ThreadInfo). s.threads ≤ length us) e (omega (arith, v.sizes.in_use, v.sizes.threads))
 
-  pub in-use-fit : Askable s (the_threads ts) → s.threads ≤ length ts
-  in-use-fit k = in-use-within k.0 k.1 k.2
-
   pub threads-are : Answers s (the_threads ts) (λ d. map thread_meant (take s.threads ts) ≡ d.accounts.threads)
   unfolding threads_in
   threads-are m v e = records-are m e
@@ -83,9 +80,6 @@ module _ (s : Sched) (ts : List ThreadInfo) where
   module _ (k : ℕ) (b : Bool) (b-is : b ≡ ltb k s.threads) where
     there : Holds b → k < s.threads
     there h = ltb→lt k s.threads (rw b-is at h)
-
-    pub record-fits : Holds b → Askable s (the_threads ts) → (i : ℕ) → i ≡ k → i < length ts
-    record-fits h a i i-is = omega (arith, i-is, there h, in-use-fit a)
 
     pub thread-found : Holds b → (i : ℕ) → i ≡ k → (x : ThreadInfo) → x ≡ get_or ts i blank → (r : OptionThread) → option_thread_meant r ≡ some (thread_meant x) → Answers s (the_threads ts) (λ d. option_thread_meant r ≡ thread_at d k)
     unfolding thread_at threads_in

@@ -1,5 +1,2 @@
-pub mod Types
+-- What the parts say of the definition's state.
 pub mod Facts
-pub mod Totaled
-pub mod At
-pub mod Tested

@@ -1,5 +1,5 @@
 // The questions that read the lent thread records, and the summary over them. A host hands in the scheduler and the records as it lends them to the calls: all
-// that is asked is what `new` and every call leave (`Askable`). Each public function is thin and proved by hand; what it computes stands in parts, which are
+// that is asked is what `new` and every call leave (`Askable`). Each public function is thin; what it computes stands in parts, which are
 // given the sums over the records in use, or one record.
 #![tactic(auto)]
 
