@@ -1,14 +1,14 @@
 -- What the parts of a run over a script return, arm by arm.
-use Prim.Native.Nat.{ℕ, zero, suc, ◌+◌, ◌*◌, ◌-◌, ◌/◌, ◌≤◌, ◌<◌}
+use Prim.Native.Nat.{ℕ, suc, ◌+◌, ◌*◌, ◌-◌, ◌/◌, ◌≤◌, ◌<◌}
 use mathlib.Core.Path.{◌≡◌, refl, sym, ap, ◌∙◌, subst}
-use mathlib.Core.Bool.{Bool, true, false, cond}
-use mathlib.Core.List.{List, [], ◌∷◌, ◌++◌, append-nil, append_assoc}
+use mathlib.Core.Bool.{Bool, true, false}
+use mathlib.Core.List.{List, ◌∷◌, ◌++◌, append-nil, append_assoc}
 use native.Mathlib.Omega.{arith}
 use borrow.Author.Tests.{lt-ltb, le-ltb, ltb-true, ltb-false}
 use borrow.Rule.Slice.PartMut.{mid_of, put_mid, Post-is}
 use lib.Dec.{ltb}
 use lib.ListN.{length, take, drop, length-drop, drop_of_length-le}
-use lib.Seq.{paste, take-length, drop-drop}
+use lib.Seq.{take-length, drop-drop}
 use Rattle.text.specs.Lines.{cut}
 use Rattle.text.specs.Buffers.{Put}
 use Rattle.text.proofs.Pieces.{cut-nil}
@@ -29,7 +29,6 @@ use Rattle.feed_plan.specs.declared.Next.{Next}
 use Rattle.feed_plan.specs.Steps.{Prints, next_text}
 use Rattle.feed_plan.specs.Feeding.{Starts, Sayable, EndFits, EndAsked}
 use Rattle.feed_plan.proofs.Making.{end-over}
-use Rattle.report_plan.specs.declared.Progress.{Progress}
 use Rattle.report_plan.specs.Running.{Begins, printed_as}
 
 ---- the number of lines

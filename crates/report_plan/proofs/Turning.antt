@@ -1,5 +1,5 @@
 -- The parts of a turn put together.
-use Prim.Native.Nat.{ℕ, suc, ◌+◌, ◌-◌, ◌≤◌}
+use Prim.Native.Nat.{ℕ, ◌+◌, ◌≤◌}
 use mathlib.Core.Path.{◌≡◌, refl, sym, ap, ◌∙◌, subst}
 use mathlib.Core.List.{List}
 use native.Mathlib.Omega.{arith}
@@ -10,10 +10,9 @@ use Rattle.model.specs.declared.ThreadInfo.{ThreadInfo}
 use Rattle.state.specs.State.{meant_at}
 use Rattle.script.specs.Report as Definition
 use Rattle.feed_plan.specs.declared.Report.{Report}
-use Rattle.feed_plan.specs.declared.Line.{Line}
 use Rattle.feed_plan.specs.declared.Next.{Next}
 use Rattle.feed_plan.specs.declared.Fed.{Fed}
-use Rattle.feed_plan.specs.Meant.{report_meant, Few, Held, Roomy, ReportValid, counting}
+use Rattle.feed_plan.specs.Meant.{report_meant, Few, Roomy, ReportValid}
 use Rattle.feed_plan.specs.Steps.{fed_of, next_text}
 use Rattle.feed_plan.specs.Feeding.{LineAsked, LineDone, Sayable, FeedDone}
 use Rattle.feed_plan.proofs.Feeding.{lines-few, line-asked, sayable, feed-done}
