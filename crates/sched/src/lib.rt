@@ -4,7 +4,7 @@
 
 pub mod answers;
 
-ghost use Rattle.state.specs.Memory.{lent};
+ghost use Rattle.state.specs.Memory.{memory};
 ghost use Rattle.state.specs.State.{Valid};
 ghost use Rattle.tick_plan.specs.DoneWith.{DoneWith};
 ghost use Rattle.sched.specs.Meant.{call_meant, outcome_meant};
@@ -64,10 +64,10 @@ pub fn apply(
     log: &mut [u64],
     lanes: &mut [u64],
 ) -> Applied
-    requires { Valid s (lent threads queue prios log lanes) }
+    requires { Valid s (memory threads.old queue.old prios.old log.old lanes.old) }
     ensures { DoneWith (call_meant call) (outcome_meant result.outcome result.switches) result.switches s result.sched
-        (lent threads.entry queue.entry prios.entry log.entry lanes.entry)
-        (lent threads.exit queue.exit prios.exit log.exit lanes.exit) }
+        (memory threads.old queue.old prios.old log.old lanes.old)
+        (memory threads.new queue.new prios.new log.new lanes.new) }
 {
     match call {
         Call::Spawn(parent, entry_pc) => {
