@@ -1,5 +1,5 @@
--- What the functions that convert answers return, arm by arm, and what the converted answers stand for.
-use mathlib.Core.Path.{◌≡◌, refl, sym}
+-- What converted answers stand for, and what a call promises once its answer is converted.
+use mathlib.Core.Path.{◌≡◌, refl}
 use native.Mathlib.Omega.{arith}
 use Rattle.model.specs.declared.CallAnswer.{CallAnswer}
 use Rattle.model.specs.declared.CallAnswer.TheVariants as CallCases
@@ -8,27 +8,19 @@ use Rattle.model.specs.declared.SpawnAnswer.TheVariants as SpawnCases
 use Rattle.model.specs.declared.JoinAnswer.{JoinAnswer}
 use Rattle.model.specs.declared.JoinAnswer.TheVariants as JoinCases
 use Rattle.model.specs.Reading.{call_answer_meant, spawn_answer_meant, join_answer_meant, switch_answer_meant}
+use Rattle.model.specs.Calls as Calls
 use Rattle.switches.specs.declared.SwitchList.{SwitchList}
+use Rattle.state.specs.declared.Sched.{Sched}
+use Rattle.state.specs.Memory.{Memory}
+use Rattle.state.specs.Done.{Done}
+use Rattle.tick_plan.specs.DoneWith.{DoneWith}
 use Rattle.sched_marks.specs.declared.Answered.{Answered}
 use Rattle.sched_threads.specs.declared.answers.SpawnAnswered.{SpawnAnswered}
 use Rattle.sched_threads.specs.declared.answers.JoinAnswered.{JoinAnswered}
-use Rattle.tick_plan.specs.declared.Ticked.{Ticked}
 use Rattle.sched.specs.declared.Applied.{Applied}
 use Rattle.sched.specs.Meant.{outcome_meant}
 use Rattle.switches.specs.Entries.{no_switches, ListFor}
-use Rattle.sched.specs.Answers.{taken, spawned, joined, switched, of_answered, of_spawn, of_join, of_ticked}
-
-pub made-answered : (a : Answered) (x : CallAnswer) (l : SwitchList) → a.answer ≡ x → l ≡ no_switches → ◌≡◌ {A = Applied} (record { sched = a.sched; outcome = taken x; switches = l }) (of_answered a)
-made-answered a x l e h = λ i. record { sched = a.sched; outcome = taken (sym e i); switches = h i }
-
-pub made-spawn : (a : SpawnAnswered) (x : SpawnAnswer) (l : SwitchList) → a.answer ≡ x → l ≡ no_switches → ◌≡◌ {A = Applied} (record { sched = a.sched; outcome = spawned x; switches = l }) (of_spawn a)
-made-spawn a x l e h = λ i. record { sched = a.sched; outcome = spawned (sym e i); switches = h i }
-
-pub made-join : (a : JoinAnswered) (x : JoinAnswer) (l : SwitchList) → a.answer ≡ x → l ≡ no_switches → ◌≡◌ {A = Applied} (record { sched = a.sched; outcome = joined x; switches = l }) (of_join a)
-made-join a x l e h = λ i. record { sched = a.sched; outcome = joined (sym e i); switches = h i }
-
-pub made-ticked : (a : Ticked) (x : CallAnswer) → a.answer ≡ x → ◌≡◌ {A = Applied} (record { sched = a.sched; outcome = switched x; switches = a.switches }) (of_ticked a)
-made-ticked a x e = λ i. record { sched = a.sched; outcome = switched (sym e i); switches = a.switches }
+use Rattle.sched.specs.Answers.{taken, spawned, joined, switched, of_answered, of_spawn, of_join}
 
 ---- a converted answer stands for what the answer did
 
@@ -64,3 +56,15 @@ pub joined-list : (x : JoinAnswer) → ListFor (join_answer_meant x) no_switches
 unfolding no_switches
 joined-list (JoinCases.Joined o) = record { list = refl; few = omega arith }
 joined-list (JoinCases.Refused r) = record { list = refl; few = omega arith }
+
+---- what a call promises, said of the answer once it is converted
+
+module _ (call : Calls.Call) (s : Sched) (m m' : Memory) (r : Applied) where
+  pub with-answered : (a : Answered) → r ≡ of_answered a → Done call (call_answer_meant a.answer) s a.sched m m' → DoneWith call (outcome_meant r.outcome r.switches) r.switches s r.sched m m'
+  with-answered a e d = rw e (record { done = rw (← taken-meant a.answer no_switches) d; list = rw (← taken-meant a.answer no_switches) (taken-list a.answer) })
+
+  pub with-spawn : (a : SpawnAnswered) → r ≡ of_spawn a → Done call (spawn_answer_meant a.answer) s a.sched m m' → DoneWith call (outcome_meant r.outcome r.switches) r.switches s r.sched m m'
+  with-spawn a e d = rw e (record { done = rw (← spawned-meant a.answer no_switches) d; list = rw (← spawned-meant a.answer no_switches) (spawned-list a.answer) })
+
+  pub with-join : (a : JoinAnswered) → r ≡ of_join a → Done call (join_answer_meant a.answer) s a.sched m m' → DoneWith call (outcome_meant r.outcome r.switches) r.switches s r.sched m m'
+  with-join a e d = rw e (record { done = rw (← joined-meant a.answer no_switches) d; list = rw (← joined-meant a.answer no_switches) (joined-list a.answer) })

@@ -1,4 +1,2 @@
-pub mod At
 pub mod Converting
 pub mod Memory
-pub mod Types
