@@ -1,6 +1,6 @@
 -- Charging a tick on a board of one core: the first step of what the loops over the cores do, and the last.
 use Prim.Native.Nat.{ℕ, ◌+◌, ◌*◌, ◌<◌, ◌≤◌}
-use mathlib.Core.Path.{◌≡◌, refl, sym, ap, ◌∙◌}
+use mathlib.Core.Path.{◌≡◌, ◌∙◌}
 use mathlib.Core.List.{List}
 use native.Mathlib.Omega.{arith}
 use lib.ListN.{length, get_or, set, length-set}
@@ -13,7 +13,7 @@ use Rattle.rings.specs.declared.RingPos.{RingPos}
 use Rattle.rings.specs.Ring.{capacity, RingOK}
 use Rattle.state.specs.declared.Sched.{Sched}
 use Rattle.state.specs.State.{state_in, states_of, no_ticks, no_pos, lane_start}
-use Rattle.accounts.specs.Charging.{part, LaneCharged, Outside, TicksCharged, LanesCharged}
+use Rattle.accounts.specs.Charging.{part, LaneCharged, Outside}
 use Rattle.accounts.proofs.Counting.{ticks-none, ticks-next, ticks-end}
 use Rattle.accounts.proofs.Timelines.{lanes-none, lanes_next, lanes_end, next-ok}
 use Rattle.tick_plan.specs.Plan.{ChargeFits, ChargedOf}

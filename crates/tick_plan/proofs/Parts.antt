@@ -1,11 +1,11 @@
 -- What each part's callees leave is what the part says.
-use Prim.Native.Nat.{ℕ, zero, suc, ◌+◌, ◌*◌, ◌<◌, ◌≤◌}
-use mathlib.Core.Path.{◌≡◌, refl, sym, ap, ◌∙◌, subst}
+use Prim.Native.Nat.{ℕ, ◌+◌, ◌*◌, ◌<◌, ◌≤◌}
+use mathlib.Core.Path.{◌≡◌, sym, ap, ◌∙◌, subst}
 use mathlib.Core.Bool.{Bool}
 use mathlib.Core.Option.{none}
-use mathlib.Core.List.{List, [], ◌∷◌, ◌++◌, map}
+use mathlib.Core.List.{List, [], ◌++◌, map}
 use native.Mathlib.Omega.{arith}
-use lib.ListN.{length, take, drop, get_or, length-append, length-drop, length-take}
+use lib.ListN.{length, take, drop, get_or}
 use lib.Seq.{length-take-le, take_at, drop_at, take-append-le, length_front}
 use Rattle.settings.specs.declared.Refusal.{Refusal}
 use Rattle.settings.specs.Reading.{refusal_number}
@@ -15,8 +15,8 @@ use Rattle.model.specs.declared.CallAnswer.{CallAnswer}
 use Rattle.model.specs.declared.CallAnswer.TheVariants as CallCases
 use Rattle.model.specs.declared.ThreadInfo.{ThreadInfo}
 use Rattle.model.specs.declared.Tick.{Tick}
-use Rattle.model.specs.Types.{Core, Event, Move}
-use Rattle.model.specs.Phases.{Pass, decide}
+use Rattle.model.specs.Types.{Move}
+use Rattle.model.specs.Phases.{decide}
 use Rattle.model.specs.Accounting.{switch_list, takes_in}
 use Rattle.model.specs.Reading.{core_state_meant}
 use Rattle.model.specs.Calls.{switched}

@@ -1,15 +1,14 @@
 -- Every thread that a move of a tick end or of a forced switch names is one that is there.
-use Prim.Native.Nat.{ℕ, zero, suc, ◌+◌, ◌≤◌, ◌<◌}
-use mathlib.Core.Path.{◌≡◌, refl, sym, ap, ◌∙◌, subst}
+use Prim.Native.Nat.{ℕ, zero, suc, ◌<◌}
+use mathlib.Core.Path.{◌≡◌, refl, subst}
 use mathlib.Core.Bool.{Bool, true, false, cond, ◌||◌}
 use mathlib.Core.Option.{Option, none, some}
 use mathlib.Core.List.{List, [], ◌∷◌, ◌++◌}
-use native.Mathlib.Omega.{arith}
 use lib.Dec.{ltb}
 use lib.ListN.{length}
-use Rattle.model.specs.Invariants.{All, States, states_of, Each, Loose, OKAt, CoreOK, CoresOK, Placed, AllO}
-use Rattle.model.specs.Types.{Policy, Off, Fifo, RoundRobin, Priority, CoreState, Idle, Switching, Running, LeaveReason, Preempt, Core, Move, starts, leaves, takes, ThreadState, Ready, Exited, OnCore, Blocked, ThreadRecord, State}
-use Rattle.model.specs.Phases.{Rules, Turn, Pass, Phase, ascend, and_then, with_state, unmoved, without, most_urgent, pick_next, dispatched_state, dispatch_moves, dispatch, sliced, phase1, switched_in, is_due, phase2, cleared, leaves_for, holder, vacate, phase3, filled, phase4, hand_over, wants_hand_over, ceiling_of, unyielded, phase5, Victim, least_urgent, update, preempted, Preemption, preemption_of, next_preemption, preempt_rounds, phase6, phases1_to4, decide}
+use Rattle.model.specs.Invariants.{All, states_of, Each, Loose, OKAt, CoreOK, CoresOK, Placed, AllO}
+use Rattle.model.specs.Types.{Policy, Off, Fifo, RoundRobin, Priority, CoreState, Idle, Switching, Running, LeaveReason, Preempt, Core, Move, leaves, ThreadState, Ready, ThreadRecord, State}
+use Rattle.model.specs.Phases.{Rules, Turn, Pass, Phase, ascend, and_then, with_state, unmoved, most_urgent, pick_next, dispatched_state, dispatch_moves, dispatch, sliced, phase1, switched_in, is_due, phase2, cleared, leaves_for, holder, vacate, phase3, filled, phase4, hand_over, wants_hand_over, ceiling_of, unyielded, phase5, Victim, least_urgent, preempted, Preemption, preemption_of, next_preemption, preempt_rounds, phase6, phases1_to4, decide}
 use Rattle.model.specs.Calls.{out_of}
 use Rattle.model.proofs.PhaseLaws.{all-update, At}
 use Rattle.model.proofs.Preempt.{urgent-in, Stands, IsRun, least_urgent-stands}

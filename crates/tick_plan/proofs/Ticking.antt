@@ -1,13 +1,12 @@
 -- A tick end, from what its parts leave to its promise.
-use Prim.Native.Nat.{ℕ, zero, suc, ◌+◌, ◌*◌, ◌<◌, ◌≤◌, ◌^◌, max}
+use Prim.Native.Nat.{ℕ, ◌+◌, ◌*◌, ◌<◌, ◌≤◌, ◌^◌, max}
 use mathlib.Core.Path.{◌≡◌, refl, sym, ap, ◌∙◌, subst, fun_ext}
-use mathlib.Core.Bool.{Bool, true, false}
+use mathlib.Core.Bool.{false}
 use mathlib.Core.Option.{Option, none, some}
-use mathlib.Core.List.{List, [], ◌∷◌, ◌++◌, map}
+use mathlib.Core.List.{List, [], map}
 use native.Mathlib.Omega.{arith}
 use borrow.Author.Tests.{leb-false}
 use lib.ListN.{length, take, drop, get_or, get_elem?}
-use lib.Seq.{length-take-le}
 use Rattle.settings.specs.declared.Refusal.{Refusal}
 use Rattle.settings.specs.Reading.{refusal_number}
 use Rattle.model.specs.Invariants.{All, ThreadIn, CoreStateIn}
@@ -16,10 +15,10 @@ use Rattle.model.specs.declared.CallAnswer.TheVariants as CallCases
 use Rattle.model.specs.declared.CoreState.TheVariants as CoreStateCases
 use Rattle.model.specs.declared.ThreadInfo.{ThreadInfo}
 use Rattle.model.specs.declared.Tick.{Tick}
-use Rattle.model.specs.Types.{Core, Move, Event, Segment, CoreTicks, SwitchEntry, ThreadRecord, Accounts, State}
+use Rattle.model.specs.Types.{Core, Move, State}
 use Rattle.model.specs.Phases.{Rules, Pass, decide}
-use Rattle.model.specs.Accounting.{charge_threads, charge, apply_moves, switch_list, takes_in}
-use Rattle.model.specs.Calls.{Answer, refused, switched, rules, priority_of, refusal, accept, check, charged, tick, limit_now, limit_switches}
+use Rattle.model.specs.Accounting.{charge_threads, charge, apply_moves, switch_list}
+use Rattle.model.specs.Calls.{switched, rules, priority_of, accept, charged, tick, limit_now}
 use Rattle.model.specs.Reading.{core_state_meant, thread_meant}
 use Rattle.model.proofs.Refusals.{check-none, check-rest}
 use Rattle.model.proofs.Bounded.{all-at, charged-in, applied-ticks, applied-switches, switches-figure}
@@ -29,17 +28,17 @@ use Rattle.switches.specs.Entries.{answer_with, ListFor}
 use Rattle.switches.proofs.Words.{list-says, list-taken, list-refused}
 use Rattle.turns.specs.Turns.{rules_of}
 use Rattle.phases.specs.Cores.{pass_of, observed}
-use Rattle.charges.specs.Charging.{cores_meant, Chargeable}
+use Rattle.charges.specs.Charging.{cores_meant}
 use Rattle.record_moves.specs.Moves.{moved_threads, MoveRoom}
 use Rattle.record_moves.proofs.Moving.{moved-threads}
 use Rattle.threads.specs.Slice.{blank, threads_in, Front, AllChargeable, tid_at, MovesFit}
 use Rattle.threads.proofs.Slices.{thread-at, length-threads}
 use Rattle.state.specs.declared.Sched.{Sched}
 use Rattle.state.specs.Memory.{memory}
-use Rattle.state.specs.State.{firsts, core_from, states_of, no_ticks, no_pos, lane_start, lane_words, log_words, meant_at, Sizes, Rings, Marks, Valid}
+use Rattle.state.specs.State.{core_from, states_of, no_pos, meant_at, Sizes, Rings, Marks, Valid}
 use Rattle.state.specs.Done.{Frame, Done}
 use Rattle.state.proofs.Doing.{done_refused, done-taken}
-use Rattle.accounts.proofs.Figures.{firsts-all, firsts_same, ticks-room, meant-ticks, meant-timelines, log-capacity, applied-log, applied-timelines}
+use Rattle.accounts.proofs.Figures.{firsts-all, firsts_same, ticks-room, meant-ticks, meant-timelines, applied-log, applied-timelines}
 use Rattle.rings.specs.Timeline.{segments_in}
 use Rattle.checks.specs.Check.{check_meant, tick_refusal}
 use Rattle.checks.proofs.Refusals.{tick-refusal}
