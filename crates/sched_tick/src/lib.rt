@@ -2,7 +2,7 @@
 #![tactic(auto)]
 
 ghost use Rattle.model.specs.Calls;
-ghost use Rattle.state.specs.Memory.{lent};
+ghost use Rattle.state.specs.Memory.{memory};
 ghost use Rattle.state.specs.State.{Valid};
 ghost use Rattle.switches.specs.Entries.{answer_with};
 ghost use Rattle.tick_plan.specs.DoneWith.{DoneWith};
@@ -22,10 +22,10 @@ pub fn end_tick(
     log: &mut [u64],
     lanes: &mut [u64],
 ) -> Ticked
-    requires { Valid s (lent threads queue prios log lanes) }
+    requires { Valid s (memory threads.old queue.old prios.now log.old lanes.old) }
     ensures { DoneWith Calls.tick (answer_with result.answer result.switches) result.switches s result.sched
-        (lent threads.entry queue.entry prios.entry log.entry lanes.entry)
-        (lent threads.exit queue.exit prios.entry log.exit lanes.exit) }
+        (memory threads.old queue.old prios.now log.old lanes.old)
+        (memory threads.new queue.new prios.now log.new lanes.new) }
 {
     let n = tick_threads(s);
     let cores = core_states(s);
