@@ -1,13 +1,12 @@
 -- Every chain of calls, made by whomever, is the definition's own run, and the round robin guarantees hold of it.
 use Prim.Native.Nat.{ℕ}
-use mathlib.Core.Path.{◌≡◌, refl, sym, ap, ◌∙◌, subst}
-use mathlib.Core.Option.{none}
+use mathlib.Core.Path.{◌≡◌, refl, ap, ◌∙◌, subst}
 use mathlib.Core.List.{List, [], ◌∷◌, ◌++◌, map}
 use Rattle.settings.specs.declared.SchedConfig.{SchedConfig}
 use Rattle.settings.specs.Reading.{policy_meant}
 use Rattle.model.specs.declared.CallAnswer.{CallAnswer}
 use Rattle.model.specs.Types.{Policy, RoundRobin, State}
-use Rattle.model.specs.Calls.{Call, Answer, step, run, new, Made, made}
+use Rattle.model.specs.Calls.{Answer, step, run, new, made}
 use Rattle.guarantees.proofs.Bounds.{round-robin-bounds}
 use Rattle.state.specs.declared.Capacities.{Capacities}
 use Rattle.state.specs.declared.Sched.{Sched}

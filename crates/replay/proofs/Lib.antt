@@ -2,4 +2,3 @@ pub mod Chains
 pub mod Encoded
 pub mod Framed
 pub mod Lists
-pub mod Types

@@ -6,7 +6,6 @@ use mathlib.Core.Option.{Option, none, some}
 use mathlib.Core.List.{List, [], ◌∷◌, ◌++◌, map, map-append}
 use lib.ListN.{length, take, drop, take-append-drop}
 use Rattle.settings.specs.declared.SchedConfig.{SchedConfig}
-use Rattle.settings.specs.Reading.{policy_meant}
 use Rattle.model.specs.Calls.{Call, Answer, ok, run}
 use Rattle.guarantees.specs.Claims.{unobserved}
 use Rattle.guarantees.proofs.History.{observe_all-run}
@@ -26,7 +25,7 @@ use Rattle.tick_plan.specs.DoneWith.{DoneWith}
 use Rattle.replay.specs.declared.Replayed.{Replayed}
 use Rattle.sched.specs.Meant.{outcome_meant}
 use Rattle.replay.specs.Encoding.{call_at, calls_of}
-use Rattle.replay.specs.Chain.{Link, Linked, Chain, Guaranteed, ChainHolds, last_sched, last_memory, last_said}
+use Rattle.replay.specs.Chain.{Link, Linked, Guaranteed, ChainHolds, last_sched, last_memory, last_said}
 use Rattle.replay.specs.Replay.{last_answer, due, Behind, AppliedAll, ReplayTaken, ReplayDone}
 use Rattle.replay.proofs.Encoded.{take_next, take-due}
 use Rattle.replay.proofs.Chains.{agrees-run, agrees-said, linked-valid, linked-snoc, sched-snoc, memory-snoc, said-snoc, chain-holds}

@@ -3,7 +3,7 @@
 
 ghost use Rattle.std.specs.Prelude.{◌≡◌, ◌+◌, ◌*◌, ◌<◌, ◌≤◌, min, length, take};
 ghost use Rattle.model.specs.Calls.{ok};
-ghost use Rattle.state.specs.Memory.{lent};
+ghost use Rattle.state.specs.Memory.{memory};
 ghost use Rattle.state.specs.State.{Valid};
 ghost use Rattle.switches.specs.Entries.{no_switches};
 ghost use Rattle.checks.specs.Check.{check_meant};
@@ -123,10 +123,10 @@ fn apply_all(
     log: &mut [u64],
     lanes: &mut [u64],
 ) -> Applied
-    requires { (3 * n ≤ length calls.now) × (0 < n → Valid first.sched (lent threads queue prios log lanes)) }
+    requires { (3 * n ≤ length calls.now) × (0 < n → Valid first.sched (memory threads.old queue.old prios.old log.old lanes.old)) }
     ensures { AppliedAll (take n (calls_of calls.now)) first result
-        (lent threads.entry queue.entry prios.entry log.entry lanes.entry)
-        (lent threads.exit queue.exit prios.exit log.exit lanes.exit) }
+        (memory threads.old queue.old prios.old log.old lanes.old)
+        (memory threads.new queue.new prios.new log.new lanes.new) }
 {
     let mut last = first;
     let mut i = 0;
@@ -155,8 +155,8 @@ pub fn replay(
     lanes: &mut [u64],
 ) -> Replayed
     ensures { ReplayDone config cores capacities entry_pc calls.now upto
-        (lent threads.entry queue.entry prios.entry log.entry lanes.entry)
-        (lent threads.exit queue.exit prios.exit log.exit lanes.exit) result }
+        (memory threads.old queue.old prios.old log.old lanes.old)
+        (memory threads.new queue.new prios.new log.new lanes.new) result }
 {
     let created = new(
         config, cores, capacities, entry_pc, threads, queue, prios, log, lanes,
