@@ -243,7 +243,7 @@ impl Wrap {
             let life = match t.state { ThreadState::Ready => "Ready".to_string(), ThreadState::Exited => "Exited".into(), ThreadState::Running(c) => format!("OnCore {}", c), ThreadState::Blocked(u) => format!("Blocked {}", u) };
             let leave = match t.last_leave { None => "none".to_string(), Some((n, c, r)) => format!("some (record {{ tick = {}; core = {}; reason = {} }})", n, c, reason(r)) };
             let x = t.stats;
-            format!("record {{ tid = {}; parent = {}; entry = {}; priority = {}; state = {}; last = record {{ core = {}; dispatch = {}; leave = {} }}; times = record {{ arrival = {}; firstRun = {}; finish = {} }}; counts = record {{ run = {}; ready = {}; blocked = {}; dispatches = {}; preemptions = {}; yields = {} }} }}",
+            format!("record {{ tid = {}; parent = {}; entry = {}; priority = {}; state = {}; last = record {{ core = {}; dispatch = {}; leave = {} }}; times = record {{ arrival = {}; first_run = {}; finish = {} }}; counts = record {{ run = {}; ready = {}; blocked = {}; dispatches = {}; preemptions = {}; yields = {} }} }}",
                 t.tid, opt(t.parent), t.entry_pc, t.priority, life, opt(t.last_core), opt(t.last_dispatch), leave, x.arrival, opt(x.first_run), opt(x.finish), x.run_ticks, x.ready_ticks, x.blocked_ticks, x.dispatches, x.preemptions, x.yields)
         }).collect());
         let ticks = list(
@@ -311,7 +311,7 @@ impl Wrap {
             SchedPolicy::RoundRobin => "RoundRobin",
             SchedPolicy::Priority => "Priority",
         };
-        format!("record {{ config = record {{ policy = {}; quantum = {}; cost = {}; capT = {}; capE = {}; capS = {} }}; cores = {}; queue = {}; accounts = record {{ threads = {}; ticks = {}; timelines = {}; log = {}; contextSwitches = {} }}; now = {}; closed = {} }}",
+        format!("record {{ config = record {{ policy = {}; quantum = {}; cost = {}; cap_t = {}; cap_e = {}; cap_s = {} }}; cores = {}; queue = {}; accounts = record {{ threads = {}; ticks = {}; timelines = {}; log = {}; context_switches = {} }}; now = {}; closed = {} }}",
             pol, s.cfg.quantum, s.cfg.switch_cost, self.cap_t, self.cap_e, self.cap_s, cells, queue, threads, ticks, lines, log, s.context_switches, s.now, self.closed)
     }
 }
@@ -416,9 +416,9 @@ fn main() {
             "answers{i} : told made{i} script{i} ≡ {}\nunfolding compute\nanswers{i} = refl\n",
             list(answers)
         );
-        println!("asked{i} : asked made{i} script{i} ≡ some ({})\nunfolding computeQuestions\nasked{i} = refl\n", asked_kept(&x));
+        println!("asked{i} : asked made{i} script{i} ≡ some ({})\nunfolding compute_questions\nasked{i} = refl\n", asked_kept(&x));
         println!(
-            "bits{i} : bits made{i} script{i} ≡ {}\nunfolding computeQuestions\nbits{i} = refl\n",
+            "bits{i} : bits made{i} script{i} ≡ {}\nunfolding compute_questions\nbits{i} = refl\n",
             bits(&x.s)
         );
         println!(

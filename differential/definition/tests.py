@@ -3,15 +3,15 @@ import sys
 
 cases, questions, tests = sys.argv[1:4]
 text = open(cases).read()
-first = 'use Rattle·model·specs.specs.Types.{Policy,'
+first = 'use Rattle.model.specs.Types.{Policy,'
 types = ('ThreadState, Ready, Exited, OnCore, Blocked, Lane, IdleLane, SwitchLane, RunLane, '
          'EventKind, Spawned, Dispatched, Departed, Woken, Reprioritised')
-asked = ('threadAt, nextTid, runner, runningOn, threadOn, findFrom, coreOf, orEmpty, timelineOf, anyThread, hasLive, '
-         'hasRunnable, isDeadlocked, passed, responseOf, turnaroundOf, mean, Figures, figures')
+asked = ('thread_at, next_tid, runner, running_on, thread_on, find_from, core_of, or_empty, timeline_of, any_thread, has_live, '
+         'has_runnable, is_deadlocked, passed, response_of, turnaround_of, mean, Figures, figures')
 assert first in text
-more = ('use Rattle·model·specs.specs.Types.{' + types + '}\n'
-        'use Rattle·model·specs.specs.Questions.{' + asked + '}\n'
+more = ('use Rattle.model.specs.Types.{' + types + '}\n'
+        'use Rattle.model.specs.Questions.{' + asked + '}\n'
         'use lib.ListN.{length}\n'
-        'use lib.Ieee.{binary64, span, climb, size, odd, units, round, div, ofInt, toBits}\n')
+        'use lib.Ieee.{binary64, span, climb, size, odd, units, round, div, of_int, to_bits}\n')
 text = text.replace(first, more + first, 1)
 open(cases, 'w').write(text + '\n' + open(questions).read() + open(tests).read())

@@ -20,13 +20,15 @@ pub fn piece_end(text: &[u8], from: usize) -> usize
     n
 }
 
+const LAST_ASCII: u8 = 127;
+
 // Whether every byte is ASCII.
 pub fn is_ascii(l: &[u8]) -> bool
     ensures { result ≡ all (λ b. leb b 127) l.now }
 {
     let mut i = 0;
     while i < l.len() {
-        if l[i] > 127 {
+        if l[i] > LAST_ASCII {
             return false;
         }
         i += 1;
