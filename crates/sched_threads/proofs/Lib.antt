@@ -1,3 +1,1 @@
-pub mod At
-pub mod Types
 pub mod Updates

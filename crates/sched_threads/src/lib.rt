@@ -1,5 +1,5 @@
 // The calls that change one thread record: `set_priority`, `spawn`, `join`, `yield_now`. Each has a half that works without the records (thread_plan);
-// what is left here lends the records and is proved by hand, so it neither branches nor reads a field.
+// what is left here lends the records, and neither branches nor reads a field.
 // The four are for hosts; what `answers` has are parts.
 #![tactic(auto)]
 
