@@ -6,31 +6,26 @@ use mathlib.Core.Option.{Option, none, some}
 use mathlib.Core.List.{List, [], ◌∷◌, ◌++◌, map, append-nil}
 use native.Mathlib.Nat.{add-zero}
 use native.Mathlib.Omega.{arith}
-use lib.Dec.{leb}
-use lib.ListN.{length, take, drop, get_or, set, length-set, length-append, take-append-drop, length-take, length-drop}
-use lib.Seq.{get_or-set_same, get_or-set_other, length-take-le, take_at, drop_at, drop-drop}
-use Rattle.model.specs.Invariants.{Placed, CoresOK, states_of as thread_states, Bounded}
+use lib.ListN.{length, take, drop, set, length-set, length-append, take-append-drop}
+use lib.Seq.{get_or-set_same, get_or-set_other, length-take-le, take_at, drop_at}
+use Rattle.model.specs.Invariants.{CoresOK, states_of as thread_states}
 use Rattle.model.specs.declared.ThreadInfo.{ThreadInfo}
 use Rattle.model.specs.declared.CallAnswer.{CallAnswer}
-use Rattle.model.specs.declared.CoreState.TheVariants as CoreStateCases
 use Rattle.model.specs.Types.{Core, ThreadRecord, Accounts, State, OnCore, Ready}
 use Rattle.model.specs.Phases.{update, holder}
 use Rattle.model.specs.Accounting.{finished, on_thread, set_state}
-use Rattle.model.specs.Calls.{Answer, ok, refusal, accept, check, exit, exited, wake, waiters, mark_exit, tid_on, tid_of, core_state_of, core_at, leaving, is_idle, limit_now, idle_core}
-use Rattle.model.specs.Reading.{core_state_meant, thread_meant, call_answer_meant}
+use Rattle.model.specs.Calls.{ok, refusal, accept, exit, exited, wake, waiters, mark_exit, tid_on, tid_of, core_state_of, core_at, limit_now, idle_core}
+use Rattle.model.specs.Reading.{call_answer_meant}
 use Rattle.model.proofs.Refusals.{check-none, check-rest}
 use Rattle.model.proofs.Placement.{held_on, states_of-range, queue-fits}
-use Rattle.model.proofs.PhaseLaws.{length-update}
 use Rattle.model.proofs.Bounded.{bounded-accept, wake-ticks}
 use Rattle.records.specs.declared.change.Change.{Change}
 use Rattle.records.specs.declared.change.Change.TheVariants as Changes
 use Rattle.records.specs.Changes.{change_meant, Fits}
 use Rattle.records.specs.Waking.{Pushed}
-use Rattle.rings.specs.Ring.{RingOK, capacity}
 use Rattle.rings.specs.Events.{events_in}
-use Rattle.threads.specs.Slice.{blank, threads_in, Front, WakeFit, woken_threads, Woken}
+use Rattle.threads.specs.Slice.{threads_in, Front, WakeFit, woken_threads, Woken}
 use Rattle.threads.proofs.Waking.{wake-threads}
-use Rattle.accounts.specs.Log.{woken_log}
 use Rattle.accounts.proofs.Figures.{log-capacity, woken-log, woken-timelines, woken-switches}
 use Rattle.state.specs.declared.Sched.{Sched}
 use Rattle.state.specs.Memory.{memory}
@@ -41,9 +36,8 @@ use Rattle.state.proofs.Doing.{done_refused, done-taken}
 use Rattle.checks.proofs.Refusals.{exit-refusal, length-threads}
 use Rattle.checks.proofs.Answers.{ok-unrefused}
 use Rattle.sched_marks.proofs.Marking.{firsts-update}
-use Rattle.updates.proofs.Reading.{same-threads}
 use Rattle.updates.proofs.Updating.{keep_same, some-record}
-use Rattle.exit_plan.specs.Exit.{exit_refusal, by_refusal, exit_tid, exit_place, exit_change, exit_threads, WakesLogged, with_exit, FinishFit, Finished}
+use Rattle.exit_plan.specs.Exit.{exit_refusal, exit_tid, exit_place, exit_change, exit_threads, WakesLogged, with_exit, FinishFit, Finished}
 use Rattle.exit_plan.proofs.Parts.{taken_is, refused-is, exit-core, answer-refused, answer-taken}
 
 ---- lists

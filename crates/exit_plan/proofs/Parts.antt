@@ -1,6 +1,6 @@
 -- The parts of `exit` by what the check answered, and the log's ring in its memory.
 use Prim.Native.Nat.{ℕ, ◌*◌, ◌-◌, ◌<◌, ◌≤◌}
-use mathlib.Core.Path.{◌≡◌, refl, sym, ap, ◌∙◌, subst}
+use mathlib.Core.Path.{◌≡◌, refl, sym, ap, ◌∙◌}
 use mathlib.Core.Bool.{false}
 use mathlib.Core.Option.{Option, none, some}
 use mathlib.Core.List.{List, ◌++◌}
@@ -13,7 +13,7 @@ use Rattle.settings.specs.Reading.{refusal_number}
 use Rattle.model.specs.declared.Tid.{Tid}
 use Rattle.model.specs.declared.CallAnswer.{CallAnswer}
 use Rattle.model.specs.declared.CallAnswer.TheVariants as CallCases
-use Rattle.model.specs.Calls.{Answer, ok, refused}
+use Rattle.model.specs.Calls.{ok, refused}
 use Rattle.model.specs.Reading.{call_answer_meant}
 use Rattle.model.proofs.Refusals.{check-none}
 use Rattle.rings.specs.declared.RingPos.{RingPos}
