@@ -1,61 +1,44 @@
--- What the callees of `feed_next` leave, put together.
+-- What the callees of `feed_next` and `finish_at` leave, put together.
 use Prim.Native.Nat.{ℕ, ◌<◌, ◌≤◌}
-use mathlib.Core.Path.{◌≡◌, sym, ap, ◌∙◌, subst}
+use mathlib.Core.Path.{◌≡◌, ap, ◌∙◌, subst}
 use mathlib.Core.List.{List}
 use native.Mathlib.Omega.{arith}
 use lib.ListN.{length, drop, length-drop}
 use Rattle.text.specs.Buffers.{Put}
+use Rattle.record_reads.specs.declared.totals.Totals.{Totals}
 use Rattle.record_reads.specs.Totals.{totals_of, TotalsFit}
 use Rattle.threads.specs.Slice.{threads_in}
 use Rattle.script.specs.Report.{finish}
 use Rattle.model.specs.declared.ThreadInfo.{ThreadInfo}
-use Rattle.sched.proofs.Memory.{Lists, Long}
 use Rattle.feed_plan.specs.declared.Report.{Report}
 use Rattle.feed_plan.specs.declared.Line.{Line}
-use Rattle.feed_plan.specs.Meant.{report_meant, Few, Roomy, ReportValid}
+use Rattle.feed_plan.specs.declared.Next.{Next}
+use Rattle.feed_plan.specs.Meant.{report_meant, Few, ReportValid}
 use Rattle.feed_plan.specs.Steps.{records_in}
-use Rattle.feed_plan.specs.Feeding.{LineAsked, LineDone, Sayable, EndAsked}
-use Rattle.feed.proofs.Advancing as Advancing
-use Rattle.feed.proofs.Totaling as Totaling
-use Rattle.feed.proofs.Results.{records-fit}
+use Rattle.feed_plan.specs.Feeding.{LineDone, Sayable, EndAsked}
+use Rattle.feed.proofs.Results.{Long, roomy-kept, totals-fit, end-fits}
 use Rattle.report_plan.specs.declared.Progress.{Progress}
+use Rattle.report_plan.specs.declared.Reached.{Reached}
 use Rattle.report_plan.specs.Turning.{NextAsked, NextDone, FinishAsked}
-use Rattle.report_plan.specs.Running.{EndedAs}
-use Rattle.report_plan.proofs.Turning.{turn-few, turn-asked, turn-sayable, turn-done}
-use Rattle.script_report.proofs.Reaching as Reaching
-use Rattle.script_report.proofs.Putting as Putting
-use Rattle.script_report.proofs.Ending as Ending
+use Rattle.report_plan.specs.Running.{ReachedAs, ProgressedAs, EndedAs}
+use Rattle.report_plan.proofs.Turning.{turn-few, turn-sayable, turn-done}
 
-abbrev pub Asks : Progress → (script b : List ℕ) → Lists → Type 0
-Asks p script b m = NextAsked p script b m.ts m.qs m.ps m.ls m.ws
-
-roomy-kept : (m z : Lists) → Long m z → Roomy m.ts m.qs m.ps m.ls m.ws → Roomy z.ts z.qs z.ps z.ls z.ws
-roomy-kept m z l k = record { threads = rw l.threads k.threads; queue = rw l.queue k.queue; prios = rw l.prios k.prios; log = rw l.log k.log; lanes = rw l.lanes k.lanes }
-
-module _ (p : Progress) (script b : List ℕ) (m : Lists) (a : Asks p script b m) where
+module _ (p : Progress) (script b : List ℕ) (ts : List ThreadInfo) (qs ps ls ws : List ℕ) (a : NextAsked p script b ts qs ps ls ws) where
   pub reachable : (p.from < length script) × Few p.report.stage p.report.lines
-  reachable = (a.on, turn-few p script b m.ts m.qs m.ps m.ls m.ws a)
+  reachable = (a.on, turn-few p script b ts qs ps ls ws a)
 
-  module _ (x : Reaching.Out) (k : Reaching.Claim p script x.answered) (r : Report) (er : r ≡ p.report) (l : Line) (el : l ≡ x.answered.line) where
-    pub asked : LineAsked r l m.ts m.qs m.ps m.ls m.ws
-    unfolding Reaching.Claim
-    asked = rw (er, el) (turn-asked p script b m.ts m.qs m.ps m.ls m.ws a x.answered k)
-
-    module _ (y : Advancing.Out) (c : Advancing.Claim r l m y.answered y.lists) where
-      line-done : LineDone p.report x.answered.line m.ts y.lists.ts m.qs y.lists.qs m.ps y.lists.ps m.ls y.lists.ls m.ws y.lists.ws y.answered
-      unfolding Advancing.Claim
+  module _ (q : Reached) (k : ReachedAs p script q) (r : Report) (er : r ≡ p.report) (l : Line) (el : l ≡ q.line) where
+    module _ (ts' : List ThreadInfo) (qs' ps' ls' ws' : List ℕ) (x : Next) (c : LineDone r l ts ts' qs qs' ps ps' ls ls' ws ws' x) where
+      line-done : LineDone p.report q.line ts ts' qs qs' ps ps' ls ls' ws ws' x
       line-done =
-          subst (λ (j : Report). LineDone j x.answered.line m.ts y.lists.ts m.qs y.lists.qs m.ps y.lists.ps m.ls y.lists.ls m.ws y.lists.ws y.answered) er
-          (subst (λ (j : Line). LineDone r j m.ts y.lists.ts m.qs y.lists.qs m.ps y.lists.ps m.ls y.lists.ls m.ws y.lists.ws y.answered) el c)
+          subst (λ (j : Report). LineDone j q.line ts ts' qs qs' ps ps' ls ls' ws ws' x) er
+          (subst (λ (j : Line). LineDone r j ts ts' qs qs' ps ps' ls ls' ws ws' x) el c)
 
-      pub sayable : (p.at ≤ length b) × Sayable y.answered (drop p.at b)
-      unfolding Reaching.Claim
-      sayable = (omega (arith, a.room), turn-sayable p script b m.ts m.qs m.ps m.ls m.ws a x.answered k y.answered y.lists.ts y.lists.qs y.lists.ps y.lists.ls y.lists.ws line-done)
+      pub sayable : (p.at ≤ length b) × Sayable x (drop p.at b)
+      sayable = (omega (arith, a.room), turn-sayable p script b ts qs ps ls ws a q k x ts' qs' ps' ls' ws' line-done)
 
-      pub turned : Long m y.lists → (z : Putting.Out) → Putting.Claim p x.answered y.answered b z.answered z.buffer
-          → NextDone p script b z.buffer m.ts y.lists.ts m.qs y.lists.qs m.ps y.lists.ps m.ls y.lists.ls m.ws y.lists.ws z.answered
-      unfolding Reaching.Claim Putting.Claim
-      turned g z s = turn-done p script b m.ts m.qs m.ps m.ls m.ws a x.answered k y.answered y.lists.ts y.lists.qs y.lists.ps y.lists.ls y.lists.ws line-done (roomy-kept m y.lists g a.valid.memory) z.buffer z.answered s
+      pub turned : Long ts ts' qs qs' ps ps' ls ls' ws ws' → (b' : List ℕ) (y : Progress) → ProgressedAs p q x b b' y → NextDone p script b b' ts ts' qs qs' ps ps' ls ls' ws ws' y
+      turned g b' y s = turn-done p script b ts qs ps ls ws a q k x ts' qs' ps' ls' ws' line-done (roomy-kept ts ts' qs qs' ps ps' ls ls' ws ws' g a.valid.memory) b' y s
 
 ---- the end of a script
 
@@ -63,15 +46,11 @@ module _ (p : Progress) (b : List ℕ) (ts : List ThreadInfo) (a : FinishAsked p
   count-is : n ≡ records_in p.report.stage p.report.sched
   count-is = e ∙ ap (λ (j : Report). records_in j.stage j.sched) er
 
-  pub totals-fit : (n ≤ length ts) × TotalsFit (totals_of (threads_in ts n))
-  totals-fit = subst (λ (k : ℕ). (k ≤ length ts) × TotalsFit (totals_of (threads_in ts k))) (sym count-is) (records-fit ts p.report.stage p.report.sched a.qs a.ps a.ls a.ws a.valid.held)
+  pub totalable : (n ≤ length ts) × TotalsFit (totals_of (threads_in ts n))
+  totalable = totals-fit p.report ts n count-is a.qs a.ps a.ls a.ws a.valid
 
-  module _ (x : Totaling.Out) (c : Totaling.Claim n ts x.answered) where
-    are-totals : x.answered ≡ totals_of (threads_in ts (records_in p.report.stage p.report.sched))
-    unfolding Totaling.Claim
-    are-totals = c ∙ ap (λ (k : ℕ). totals_of (threads_in ts k)) count-is
-
-    pub end-asked : (p.at ≤ length b) × EndAsked p.report x.answered (drop p.at b)
+  module _ (x : Totals) (c : x ≡ totals_of (threads_in ts n)) where
+    pub end-asked : (p.at ≤ length b) × EndAsked p.report x (drop p.at b)
     end-asked = (
       a.within,
       record {
@@ -80,11 +59,11 @@ module _ (p : Progress) (b : List ℕ) (ts : List ThreadInfo) (a : FinishAsked p
         ps = a.ps;
         ls = a.ls;
         ws = a.ws;
-        fits = record { valid = a.valid; totals = are-totals };
+        fits = end-fits p.report ts n count-is x c a.qs a.ps a.ls a.ws a.valid;
         room = λ z. omega (arith, a.room z, length-drop p.at b);
       },
     )
 
-    pub finished : (z : Ending.Out) → Ending.Claim p x.answered b z.answered z.buffer → (qs ps ls ws : List ℕ) → ReportValid p.report ts qs ps ls ws → Put b p.at (finish (report_meant p.report ts qs ls ws)) z.buffer z.answered
-    unfolding Ending.Claim EndedAs
-    finished z k qs ps ls ws w = k ts qs ps ls ws (record { valid = w; totals = are-totals })
+    pub finished : (b' : List ℕ) (m : ℕ) → EndedAs p x b b' m → (qs ps ls ws : List ℕ) → ReportValid p.report ts qs ps ls ws → Put b p.at (finish (report_meant p.report ts qs ls ws)) b' m
+    unfolding EndedAs
+    finished b' m k qs ps ls ws w = k ts qs ps ls ws (end-fits p.report ts n count-is x c qs ps ls ws w)
