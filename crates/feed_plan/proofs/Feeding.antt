@@ -1,18 +1,17 @@
 -- What the parts of a line put together make: the definition's next report, and what it prints.
-use Prim.Native.Nat.{ℕ, zero, suc, pred, ◌+◌, ◌*◌, ◌≤◌, ◌<◌}
+use Prim.Native.Nat.{ℕ, zero, suc, ◌+◌, ◌*◌, ◌≤◌}
 use mathlib.Core.Path.{◌≡◌, refl, sym, ap, ◌∙◌, subst}
-use mathlib.Core.Bool.{Bool, true, false, ◌||◌}
+use mathlib.Core.Bool.{false}
 use mathlib.Core.Option.{Option, none, some}
-use mathlib.Core.List.{List, []}
+use mathlib.Core.List.{List}
 use native.Mathlib.Omega.{arith}
 use borrow.Author.Tests.{le-ltb, ltb-false}
-use lib.Dec.{ltb}
 use lib.ListN.{length}
 use Rattle.text.specs.Lines.{Read, bad, good}
 use Rattle.text.specs.Buffers.{Put}
 use Rattle.settings.specs.declared.Refusal.{Refusal}
 use Rattle.settings.specs.declared.SchedConfig.{SchedConfig}
-use Rattle.settings.specs.Reading.{refusal_number, policy_meant, settings_meant}
+use Rattle.settings.specs.Reading.{refusal_number}
 use Rattle.rcfg.specs.declared.Head as Heads
 use Rattle.rcfg.specs.Reading.{head_meant}
 use Rattle.script.specs.Invariants.{Kept}
@@ -26,7 +25,7 @@ use Rattle.model.proofs.Refusals.{check-none, check-rest}
 use Rattle.checks.specs.Check.{check_meant}
 use Rattle.state.specs.declared.Sched.{Sched}
 use Rattle.state.specs.Memory.{memory}
-use Rattle.state.specs.State.{meant_at, Valid, lane_start}
+use Rattle.state.specs.State.{meant_at, lane_start}
 use Rattle.switches.specs.Entries.{no_switches}
 use Rattle.tick_plan.specs.DoneWith.{DoneWith}
 use Rattle.new_plan.specs.declared.Created.{Created}
@@ -34,7 +33,6 @@ use Rattle.new_plan.specs.First.{core_count, is_short, or_refusal, new_refusal}
 use Rattle.new_plan.specs.Made.{NewDone, NewTaken}
 use Rattle.sched.specs.declared.Call.{Call}
 use Rattle.sched.specs.declared.Applied.{Applied}
-use Rattle.sched.specs.declared.Outcome.TheVariants as OutcomeCases
 use Rattle.sched.specs.Meant.{call_meant, outcome_meant}
 use Rattle.script.specs.Script.{call_line}
 use Rattle.script.specs.Report as Definition
@@ -50,7 +48,7 @@ use Rattle.feed_plan.specs.declared.Line.{Line}
 use Rattle.feed_plan.specs.declared.Line.TheVariants as LineCases
 use Rattle.feed_plan.specs.declared.Next.{Next}
 use Rattle.feed_plan.specs.declared.Fed.{Fed}
-use Rattle.feed_plan.specs.Meant.{stage_meant, lines_in, counting, report_at, report_meant, Few, Held, Roomy, ReportValid}
+use Rattle.feed_plan.specs.Meant.{stage_meant, lines_in, counting, report_meant, Few, Held, Roomy, ReportValid}
 use Rattle.feed_plan.specs.Steps.{after_refusal, step_in, fed_of, Counts, Rests, Fits, report_capacities, refused_stage, refused_next, plain_next, created_next, answered_next, applied_next, next_text}
 use Rattle.feed_plan.specs.Feeding.{LineAsked, LineDone, Sayable, SaidAs, FeedDone}
 

@@ -1,6 +1,6 @@
 -- What a line that was read says of the definition's `feed`: one law for each way that the program leaves.
 use Prim.Native.Nat.{ℕ, suc, ◌-◌, ◌≤◌, ◌<◌}
-use mathlib.Core.Path.{◌≡◌, refl, ◌∙◌, subst, sym}
+use mathlib.Core.Path.{◌≡◌, subst, sym}
 use mathlib.Core.Bool.{Bool, true, false, cond}
 use mathlib.Core.Option.{Option, none, some}
 use mathlib.Core.List.{List, []}
@@ -8,7 +8,7 @@ use native.Mathlib.Omega.{arith}
 use borrow.Author.Tests.{le-leb, lt-leb}
 use lib.Dec.{leb}
 use lib.ListN.{length, take}
-use Rattle.text.specs.Lines.{Read, bad, good, line_of}
+use Rattle.text.specs.Lines.{bad, good, line_of}
 use Rattle.text.specs.Searches.{line_if}
 use Rattle.text.proofs.Trimming.{line-some}
 use Rattle.settings.specs.Settings.{Settings, Head}

@@ -1,66 +1,30 @@
--- What the functions that make the next report return, and what is put of it, arm by arm.
-use Prim.Native.Nat.{ℕ, suc, ◌+◌, ◌≤◌, ◌<◌, ◌^◌}
-use mathlib.Core.Path.{◌≡◌, refl, sym, ap, ◌∙◌, subst}
+-- What is put of a line and at the end of a script, arm by arm.
+use Prim.Native.Nat.{ℕ, suc, ◌+◌, ◌≤◌}
+use mathlib.Core.Path.{◌≡◌, ap, ◌∙◌, subst}
 use mathlib.Core.List.{List, []}
 use native.Mathlib.Omega.{arith}
 use lib.ListN.{length}
 use Rattle.settings.specs.declared.Refusal.{Refusal}
 use Rattle.settings.specs.Reading.{refusal_number}
-use Rattle.rcfg.specs.declared.Head as Heads
 use Rattle.model.specs.declared.ThreadInfo.{ThreadInfo}
 use Rattle.model.specs.declared.Tid.{Tid}
 use Rattle.model.specs.declared.JoinOutcome.{JoinOutcome}
-use Rattle.model.specs.declared.CallAnswer.TheVariants as CallCases
 use Rattle.model.specs.Reading.{join_meant, switches_meant}
 use Rattle.record_reads.specs.declared.totals.Totals.{Totals}
 use Rattle.record_reads.specs.Totals.{totals_of}
 use Rattle.threads.specs.Slice.{threads_in}
-use Rattle.state.specs.declared.Sched.{Sched}
-use Rattle.state.specs.State.{meant_at, Valid}
-use Rattle.switches.specs.declared.SwitchList.{SwitchList}
+use Rattle.state.specs.State.{meant_at}
 use Rattle.summary.specs.Reading.{Summed}
-use Rattle.new_plan.specs.declared.Created.{Created}
 use Rattle.sched.specs.declared.Outcome.TheVariants as OutcomeCases
-use Rattle.switches.specs.Entries.{no_switches}
 use Rattle.script.specs.Report.{answer_text, refused_text, joined_text, switch_texts, summary, finishing, finish}
 use Rattle.feed_plan.specs.declared.Stage.{Stage}
 use Rattle.feed_plan.specs.declared.Stage.TheVariants as StageCases
 use Rattle.feed_plan.specs.declared.Report.{Report}
-use Rattle.feed_plan.specs.declared.Plain.{Plain}
-use Rattle.feed_plan.specs.declared.Plain.TheVariants as PlainCases
 use Rattle.feed_plan.specs.declared.Next.{Next}
-use Rattle.feed_plan.specs.Meant.{report_meant, Few, Held, ReportValid}
-use Rattle.feed_plan.specs.Steps.{PlainFits, refused_stage, quiet_next, refused_next, headed_next, called_next, plain_next, answered_next, created_next, records_in, next_text}
+use Rattle.feed_plan.specs.Meant.{report_meant, Few, Held}
+use Rattle.feed_plan.specs.Steps.{records_in, next_text}
 use Rattle.feed_plan.specs.Feeding.{EndFits, EndAsked}
 use Rattle.feed_plan.proofs.Feeding.{lines-few}
-
----- the next report
-
-module _ (r : Report) (l : SwitchList) (e : l ≡ no_switches) where
-  pub quiet-made : ◌≡◌ {A = Next} (record { report = r; line = 0; outcome = OutcomeCases.Taken; switches = l }) (quiet_next r)
-  quiet-made = λ i. record { report = r; line = 0; outcome = OutcomeCases.Taken; switches = e i }
-
-  pub headed-made : (h : Heads.Head) → ◌≡◌ {A = Next} (record { report = record { lines = r.lines + 1; stage = StageCases.Heads; head = h; sched = r.sched }; line = 0; outcome = OutcomeCases.Taken; switches = l }) (headed_next r h)
-  headed-made h = λ i. record { report = record { lines = r.lines + 1; stage = StageCases.Heads; head = h; sched = r.sched }; line = 0; outcome = OutcomeCases.Taken; switches = e i }
-
-  pub refused-made : (g : Stage) (k : Refusal) → g ≡ refused_stage r.stage
-      → ◌≡◌ {A = Next} (record { report = record { lines = r.lines; stage = g; head = r.head; sched = r.sched }; line = r.lines + 1; outcome = OutcomeCases.Refused k; switches = l }) (refused_next r k)
-  refused-made g k q = λ i. record { report = record { lines = r.lines; stage = q i; head = r.head; sched = r.sched }; line = r.lines + 1; outcome = OutcomeCases.Refused k; switches = e i }
-
-  pub created-taken : (c : Created) → c.answer ≡ CallCases.Taken → called_next r c.sched OutcomeCases.Taken l ≡ created_next r c
-  created-taken c q = rw (q, e)
-
-pub created-refused : (r : Report) (c : Created) (k : Refusal) → c.answer ≡ CallCases.Refused k → refused_next r k ≡ created_next r c
-created-refused r c k q = rw q
-
-pub plain-is : (r : Report) (p q : Plain) → p ≡ q → plain_next r q ≡ plain_next r p
-plain-is r p q e = ap (plain_next r) (sym e)
-
-pub refused-few : (r : Report) (p : Plain) (k : Refusal) → p ≡ PlainCases.Refused k → PlainFits r p → r.lines ≤ 1_000_000_000_000
-refused-few r p k e f = (subst (PlainFits r) e f).1
-
-pub headed-few : (r : Report) (p : Plain) (h : Heads.Head) → p ≡ PlainCases.Head h → PlainFits r p → r.lines ≤ 1_000_000_000_000
-headed-few r p h e f = (subst (PlainFits r) e f).1
 
 ---- what is printed
 
@@ -89,9 +53,6 @@ module _ (x : Next) where
   switches-room n e h = rw (text-switched e) (omega arith)
 
 ---- the end of a script
-
-pub records-are : (s : Sched) (g k : Stage) → g ≡ k → records_in k s ≡ records_in g s
-records-are s g k e = ap (λ (x : Stage). records_in x s) (sym e)
 
 module _ (r : Report) where
   few-at : (n : ℕ) (g : Stage) → g ≡ StageCases.Heads → Few g n → n ≤ 1_000_000_000_000

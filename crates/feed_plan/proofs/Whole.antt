@@ -1,22 +1,19 @@
 -- Lines one after the other: what a loop over the lines of a script holds on to, from the first line to the end.
-use Prim.Native.Nat.{ℕ, zero, suc}
+use Prim.Native.Nat.{ℕ}
 use mathlib.Core.Path.{◌≡◌, refl, sym, ap, ◌∙◌}
 use mathlib.Core.List.{List, [], ◌∷◌, ◌++◌}
 use native.Mathlib.Omega.{arith}
 use Rattle.settings.specs.Settings.{none_yet}
-use Rattle.settings.specs.Settings as Settings
 use Rattle.rcfg.specs.declared.Head as Heads
 use Rattle.rcfg.specs.Reading.{head_meant}
 use Rattle.model.specs.declared.ThreadInfo.{ThreadInfo}
 use Rattle.state.specs.declared.Sched.{Sched}
-use Rattle.state.specs.State.{meant_at}
-use Rattle.script.specs.Report.{heads, calls, ended, over, Stage, Report, Fed, feed, feeds, finish, whole}
-use Rattle.script.specs.Report as Definition
+use Rattle.script.specs.Report.{heads, calls, ended, over, Stage, Report, feed, feeds, finish, whole}
 use Rattle.script.proofs.Streams.{whole-step, whole-end, whole-over, whole-ended}
 use Rattle.feed_plan.specs.declared.Report as Program
 use Rattle.feed_plan.specs.declared.Stage.TheVariants as StageCases
 use Rattle.feed_plan.specs.declared.Fed as Feds
-use Rattle.feed_plan.specs.Meant.{counting, report_meant, Roomy, ReportValid}
+use Rattle.feed_plan.specs.Meant.{counting, report_meant}
 use Rattle.feed_plan.specs.Feeding.{Starts, FeedDone}
 
 -- the count that is forgotten after the end is never printed
