@@ -7,7 +7,7 @@ ghost use Rattle.std.specs.Prelude.{◌≡◌, List, ℕ, ◌<◌};
 ghost use Rattle.std.proofs.Math.Option.{some};
 ghost use Rattle.model.specs.declared.ThreadInfo.{ThreadInfo};
 ghost use Rattle.model.specs.Reading.{option_tid_meant};
-ghost use Rattle.state.specs.Memory.{lent, memory};
+ghost use Rattle.state.specs.Memory.{memory};
 ghost use Rattle.state.specs.State.{Valid};
 ghost use Rattle.checks.specs.Check.{check_meant};
 ghost use Rattle.ticking.specs.Turns.{reports, Ran, TurnsDone, SpawnsDone, Lent};
@@ -71,7 +71,7 @@ pub fn run_ticks(
     log: &mut [u64],
     lanes: &mut [u64],
 ) -> Sched
-    requires { 0 < ticks → Valid first (lent threads queue prios log lanes) }
+    requires { 0 < ticks → Valid first (memory threads.old queue.old prios.now log.old lanes.old) }
     ensures { TurnsDone ticks first result threads.old threads.new
         queue.old queue.new prios.now log.old log.new lanes.old lanes.new }
 {
@@ -159,8 +159,8 @@ pub fn run_load(
     log: &mut [u64],
     lanes: &mut [u64],
 ) -> Loaded
-    ensures { LoadDone config cores capacities count ticks (lent threads.entry queue.entry prios.entry log.entry lanes.entry)
-        (lent threads.exit queue.exit prios.exit log.exit lanes.exit) result }
+    ensures { LoadDone config cores capacities count ticks (memory threads.old queue.old prios.old log.old lanes.old)
+        (memory threads.new queue.new prios.new log.new lanes.new) result }
 {
     let created = new(
         config, cores, capacities, 0, threads, queue, prios, log, lanes,
