@@ -13,7 +13,7 @@ use Rattle.text.specs.Bytes.{all, number}
 use Rattle.text.specs.Reading.{number_meant}
 use Rattle.text.specs.declared.Number.{Number}
 use Rattle.text.proofs.Decimal.{all_append}
-use Rattle.trace_read.specs.Script.{or_zero, number_said, count_of, Read}
+use Rattle.trace_read.specs.Script.{or_zero, count_of, Read}
 use Rattle.trace_read.proofs.Dividing.{said-is}
 
 -- one byte more, which is not 10

@@ -18,7 +18,7 @@ use Rattle.trace_read.specs.declared.Setup.{Setup}
 use Rattle.trace_read.specs.declared.Line.{Line}
 use Rattle.trace_read.specs.declared.Line.TheVariants as Lines
 use Rattle.trace_read.specs.Script.{fields_of, field, needing, thread_said, or_zero, policy_numbered, new_line, spawn_line, core_line, pair_line, force_line, line_said, line_of}
-use Rattle.trace_read.specs.Parts.{is_number, are_numbers, is_pair, asked_numbers, setup_in, core_call, pair_call, line_with}
+use Rattle.trace_read.specs.Parts.{is_number, are_numbers, asked_numbers, setup_in, core_call, pair_call, line_with}
 
 ---- a field of the array, which has nine
 
