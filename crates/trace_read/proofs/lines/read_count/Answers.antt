@@ -1,12 +1,8 @@
 use native.Mathlib.Omega.{arith}
-use mathlib.Core.Path.{◌≡◌, sym}
-use lib.Seq.{length-take-le}
+use mathlib.Core.Path.{◌≡◌}
 use Rattle.trace_read.specs.Script.{count_of}
 use Rattle.trace_read.proofs.Reading.{read-front, count-said}
 use Rattle.trace_read.proofs.lines.read_count.Goals as goal
-
-pub slice_bounds-read_number-end : goal.slice_bounds-read_number-end
-slice_bounds-read_number-end c = sym (length-take-le _ _ (omega arith))
 
 pub returns : goal.returns
 returns c =

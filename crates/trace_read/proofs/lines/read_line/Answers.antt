@@ -1,12 +1,8 @@
 use native.Mathlib.Omega.{arith}
-use mathlib.Core.Path.{◌≡◌, sym}
-use lib.Seq.{length-take-le}
+use mathlib.Core.Path.{◌≡◌}
 use Rattle.trace_read.specs.Script.{line_of}
 use Rattle.trace_read.proofs.Reading.{read-front}
 use Rattle.trace_read.proofs.lines.read_line.Goals as goal
-
-pub slice_bounds-parsed-end : goal.slice_bounds-parsed-end
-slice_bounds-parsed-end c = sym (length-take-le _ _ (omega arith))
 
 pub returns : goal.returns
 returns c =
