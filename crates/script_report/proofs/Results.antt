@@ -15,8 +15,8 @@ use Rattle.feed_plan.specs.declared.Line.{Line}
 use Rattle.feed_plan.specs.declared.Next.{Next}
 use Rattle.feed_plan.specs.Meant.{report_meant, Few, ReportValid}
 use Rattle.feed_plan.specs.Steps.{records_in}
-use Rattle.feed_plan.specs.Feeding.{LineDone, Sayable, EndAsked}
-use Rattle.feed.proofs.Results.{Long, roomy-kept, totals-fit, end-fits}
+use Rattle.feed_plan.specs.Feeding.{LineDone, Sayable, EndFits, EndAsked}
+use Rattle.feed.proofs.Results.{Long, roomy-kept, totals-fit}
 use Rattle.report_plan.specs.declared.Progress.{Progress}
 use Rattle.report_plan.specs.declared.Reached.{Reached}
 use Rattle.report_plan.specs.Turning.{NextAsked, NextDone, FinishAsked}
@@ -50,6 +50,9 @@ module _ (p : Progress) (b : List ℕ) (ts : List ThreadInfo) (a : FinishAsked p
   totalable = totals-fit p.report ts n count-is a.qs a.ps a.ls a.ws a.valid
 
   module _ (x : Totals) (c : x ≡ totals_of (threads_in ts n)) where
+    end-fits : (qs ps ls ws : List ℕ) → ReportValid p.report ts qs ps ls ws → EndFits p.report x ts qs ps ls ws
+    end-fits qs ps ls ws v = record { valid = v; totals = c ∙ ap (λ (k : ℕ). totals_of (threads_in ts k)) count-is }
+
     pub end-asked : (p.at ≤ length b) × EndAsked p.report x (drop p.at b)
     end-asked = (
       a.within,
@@ -59,11 +62,11 @@ module _ (p : Progress) (b : List ℕ) (ts : List ThreadInfo) (a : FinishAsked p
         ps = a.ps;
         ls = a.ls;
         ws = a.ws;
-        fits = end-fits p.report ts n count-is x c a.qs a.ps a.ls a.ws a.valid;
+        fits = end-fits a.qs a.ps a.ls a.ws a.valid;
         room = λ z. omega (arith, a.room z, length-drop p.at b);
       },
     )
 
     pub finished : (b' : List ℕ) (m : ℕ) → EndedAs p x b b' m → (qs ps ls ws : List ℕ) → ReportValid p.report ts qs ps ls ws → Put b p.at (finish (report_meant p.report ts qs ls ws)) b' m
     unfolding EndedAs
-    finished b' m k qs ps ls ws w = k ts qs ps ls ws (end-fits p.report ts n count-is x c qs ps ls ws w)
+    finished b' m k qs ps ls ws w = k ts qs ps ls ws (end-fits qs ps ls ws w)
