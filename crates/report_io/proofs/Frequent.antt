@@ -7,8 +7,7 @@ use mathlib.Core.Option.{Option, none, some}
 use mathlib.Core.List.{List, [], ◌∷◌, ◌++◌}
 use native.Mathlib.Omega.{arith}
 use borrow.Author.Tests.{le-leb}
-use lib.Dec.{leb}
-use lib.ListN.{length, take, drop, take-append-drop}
+use lib.ListN.{take, drop, take-append-drop}
 use lib.Seq.{take-take}
 use Rattle.text.specs.Bytes.{value_from, spelled, unsigned, at_most, number}
 use Rattle.text.specs.Lines.{Read, good, or_bad, map_read, onto, cut, before, unended, line_of, before_eq, value, named, key_in, fields, needed, one}
@@ -21,7 +20,6 @@ use Rattle.script.specs.Report as Definition
 use Rattle.sched.specs.declared.Call.TheVariants as CallCases
 use Rattle.feed_plan.specs.declared.Stage.{Stage}
 use Rattle.feed_plan.specs.declared.Stage.TheVariants as StageCases
-use Rattle.feed_plan.specs.declared.Report.{Report}
 use Rattle.feed_plan.specs.declared.Reader.{Reader}
 use Rattle.feed_plan.specs.declared.Line.TheVariants as LineCases
 use Rattle.feed_plan.specs.Feeding.{LineRead, report_of}

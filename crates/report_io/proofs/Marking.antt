@@ -1,50 +1,18 @@
 -- Lines `retired=` in front of a text, taken one after the other.
 -- Assumes nothing.
-use Prim.Native.Nat.{ℕ, zero, suc, ◌+◌, ◌-◌, ◌*◌, ◌≤◌, ◌<◌}
-use mathlib.Core.Path.{◌≡◌, refl, sym, ap, ap₂, subst, ◌∙◌}
-use mathlib.Core.Bool.{Bool, true, false}
-use mathlib.Core.List.{List, [], ◌∷◌, ◌++◌, append_assoc, append-nil}
+use Prim.Native.Nat.{ℕ, ◌+◌, ◌-◌, ◌*◌, ◌≤◌, ◌<◌}
+use mathlib.Core.Path.{◌≡◌, refl, sym, ap, subst, ◌∙◌}
+use mathlib.Core.Bool.{Bool, true}
+use mathlib.Core.List.{List, [], ◌∷◌, ◌++◌}
 use native.Mathlib.Omega.{arith}
-use native.Mathlib.Numerals.{add-one}
-use lib.ListN.{length, take, drop, get_or, set, length-append, length-take, length-drop, take-append-drop}
-use lib.Seq.{take-suc, take-add, take-take, take_all, length-take-le, drop-drop}
-use Rattle.text.specs.Bytes.{same}
-use Rattle.text.proofs.Places.{same-eq}
-use Rattle.feed_plan.specs.declared.Stage.{Stage}
-use Rattle.feed_plan.specs.declared.Stage.TheVariants as StageCases
+use lib.ListN.{length, take, drop, set, length-append, length-drop, take-append-drop}
+use lib.Seq.{take-add, drop-drop}
 use Rattle.feed_plan.specs.declared.Report.{Report}
-use Rattle.feed_plan.specs.Meant.{Few}
 use Rattle.report_io.specs.declared.Ahead.{Ahead}
 use Rattle.report_io.specs.declared.Place.{Place}
 use Rattle.report_io.specs.Marks.{retired_line, retired_lines, marks_after, Each, MarkedCore, MarksAhead, no_marks, TakesMarks, LinesAhead}
 use Rattle.report_io.specs.Blocks.{Within, between}
 use Rattle.report_io.proofs.Standing.{drop-take, between-length}
-
----- one line
-
-ten : (l : List ℕ) → length l ≡ 10 → l ≡ take 8 l ++ (get_or l 8 0 ∷ get_or l 9 0 ∷ [])
-ten l e =
-    sym (take_all 10 l (omega arith)) ∙
-    take-suc l 9 0 (omega arith) ∙
-    ap (λ (t : List ℕ). t ++ (get_or l 9 0 ∷ [])) (take-suc l 8 0 (omega arith)) ∙
-    append_assoc (take 8 l) (get_or l 8 0 ∷ []) (get_or l 9 0 ∷ [])
-
-module _ (text : List ℕ) (at : ℕ) (line : List ℕ) (is : line ≡ between at (at + 10) text) (fits : at + 10 ≤ length text) where
-  left : 10 ≤ length (drop at text)
-  left = rw length-drop (omega arith)
-
-  line-is : line ≡ take 10 (drop at text)
-  line-is = let e : at + 10 - at ≡ 10 = omega arith in is ∙ ap (λ (n : ℕ). take n (drop at text)) e
-
-  pub core-read : same (take 8 line) (114 ∷ 101 ∷ 116 ∷ 105 ∷ 114 ∷ 101 ∷ 100 ∷ 61 ∷ []) ≡ true → get_or line 9 0 ≡ 10 → (d : ℕ) → d ≡ get_or line 8 0 → 48 ≤ d → MarkedCore (drop at text) (d - 48)
-  core-read e f d g h k =
-      let n : get_or line 8 0 ≡ 48 + (d - 48) = omega (arith, g) in (
-        left,
-        sym line-is ∙
-            ten line (ap length line-is ∙ length-take-le 10 (drop at text) left) ∙
-            ap (λ (l : List ℕ). l ++ (get_or line 8 0 ∷ get_or line 9 0 ∷ [])) (same-eq (take 8 line) _ e) ∙
-            ap₂ (λ (x y : ℕ). 114 ∷ 101 ∷ 116 ∷ 105 ∷ 114 ∷ 101 ∷ 100 ∷ 61 ∷ x ∷ y ∷ []) n f,
-      )
 
 ---- one line more
 
@@ -77,16 +45,6 @@ unfolding retired_lines marks_after
 none-taken text cores m = record { lines = []; each = tt; place = refl; within = omega arith; front = refl; count = refl; marked = refl }
 
 module _ (text : List ℕ) (cores : ℕ) (m marks : List Bool) (at count : ℕ) (t : Taken text cores m marks at count) where
-  pub taken-ahead : (a : Ahead) → a.count ≡ count → a.progressed ≡ marks → MarksAhead text cores m a
-  taken-ahead a e f = record {
-    lines = t.lines;
-    each = t.each;
-    within = subst (λ (n : ℕ). n ≤ length text) t.place t.within;
-    front = subst (λ (n : ℕ). take n text ≡ retired_lines t.lines) t.place t.front;
-    count = e ∙ t.count;
-    progressed = f ∙ t.marked;
-  }
-
   module _ (c : ℕ) (is : MarkedCore (drop at text) c) (h : c < cores) (k : c < 8) where
     pub room_for : at + 10 ≤ length text
     room_for = let e : length (drop at text) ≡ length text - at = length-drop at text in omega (arith, (is k).0, t.within)

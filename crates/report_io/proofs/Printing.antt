@@ -1,19 +1,15 @@
 -- What is printed: a line's text behind what is pending, what stays pending, and the next line.
-use Prim.Native.Nat.{ℕ, zero, suc, ◌+◌, ◌-◌, ◌≤◌, ◌<◌}
+use Prim.Native.Nat.{ℕ, ◌+◌, ◌≤◌, ◌<◌}
 use mathlib.Core.Path.{◌≡◌, refl, sym, ap, subst, ◌∙◌}
 use mathlib.Core.Bool.{Bool, true, false, cond, ◌&&◌}
-use mathlib.Core.List.{List, [], ◌∷◌, ◌++◌, append_assoc, append-nil}
+use mathlib.Core.List.{List, [], ◌∷◌, ◌++◌, append_assoc}
 use native.Mathlib.Omega.{arith}
 use borrow.Author.Tests.{le-leb, lt-leb}
 use lib.Dec.{leb}
 use lib.ListN.{length, take, drop, length-append, length-drop}
 use lib.Seq.{paste, take-length, take-add, take_at, drop_at, length-take-le}
 use Rattle.text.specs.Buffers.{Put}
-use Rattle.feed_plan.specs.declared.Stage.{Stage}
-use Rattle.feed_plan.specs.declared.Stage.TheVariants as StageCases
-use Rattle.feed_plan.specs.declared.Report.{Report}
 use Rattle.feed_plan.specs.declared.Next.{Next}
-use Rattle.feed_plan.specs.Meant.{Few}
 use Rattle.feed_plan.specs.Steps.{next_text}
 use Rattle.report_io.specs.declared.Ahead.{Ahead}
 use Rattle.report_io.specs.declared.Marked.{Marked}
@@ -199,36 +195,3 @@ module _ (u : Upcoming) (x : Next) (b b1 : List ℕ) (after p : Place) (roomy : 
           over = λ g. n.over;
           on = subst (λ (i : ℕ). u.place.turn < i) (sym turn) (turn_on n.awaits.ahead u.place.turn (length l.lines) less);
         }
-
----- the lines that are counted
-
-pub few-more : (g : Stage) (n k : ℕ) → Few g n → (0 < k → n + k ≤ 1_000_000_000_000) → Few g (n + k)
-few-more g n zero h f = subst (Few g) (sym (add-zero n)) h
-  where
-    add-zero : (n : ℕ) → n + 0 ≡ n
-    add-zero n = omega arith
-few-more StageCases.Heads n (suc k) h f = f (omega arith)
-few-more StageCases.Calls n (suc k) h f = f (omega arith)
-few-more StageCases.Ended n (suc k) h f = tt
-few-more StageCases.Over n (suc k) h f = tt
-
-pub few-lines : (g : Stage) (n : ℕ) → takes_lines g ≡ true → Few g n → n ≤ 1_000_000_000_000
-unfolding takes_lines
-few-lines StageCases.Heads n e h = h
-few-lines StageCases.Calls n e h = h
-few-lines StageCases.Ended n e h = absurd (not-both false e refl)
-few-lines StageCases.Over n e h = absurd (not-both false e refl)
-
--- behind the lines that were taken together
-module _ (r : Report) (p : Place) (b : List ℕ) (a : Ahead) (l : LinesAhead r p b a) where
-  pub few-after : (m : Marked) → m ≡ marked_by r a → Few r.stage r.lines → Few r.stage m.lines
-  few-after m e h =
-      subst (λ (n : ℕ). Few r.stage n) (sym (ap (λ (w : Marked). w.lines) e))
-      (few-more r.stage r.lines a.count h (λ k. let c = l.count in let t = l.takes (omega arith) in omega (arith, c, t.lines, l.few)))
-
-  pub roomy_after : Roomy p → Roomy (place_after a.count p)
-  roomy_after h = record { within = record { begins = omega (arith, l.within, l.count); ends = h.within.ends; pending = h.within.pending; turns = turns l.lines refl }; room = h.room }
-    where
-      turns : (ls : List ℕ) → l.lines ≡ ls → p.turn + a.count ≤ last_turn
-      turns [] e = let n : length l.lines ≡ 0 = ap length e in omega (arith, h.within.turns, l.count)
-      turns (x ∷ ls) e = let n : length l.lines ≡ suc (length ls) = ap length e in let t = l.takes (omega arith) in omega (arith, t.turns, l.few, l.count)
