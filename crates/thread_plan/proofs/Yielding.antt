@@ -1,5 +1,5 @@
 -- `yield_now`: its ladder, and where it is taken.
-use Prim.Native.Nat.{ℕ, ◌+◌, ◌<◌, ◌^◌}
+use Prim.Native.Nat.{ℕ, ◌+◌, ◌<◌, ◌≤◌, ◌^◌}
 use mathlib.Core.Path.{◌≡◌, refl, sym, ap, ap₂, ◌∙◌, subst}
 use mathlib.Core.Bool.{Bool, true, false}
 use mathlib.Core.Option.{Option, none, some}
@@ -7,7 +7,7 @@ use mathlib.Core.List.{List, map}
 use native.Mathlib.Omega.{arith}
 use lib.Dec.{leb}
 use lib.ListN.{take, get_or, get_elem?, set}
-use borrow.Author.Tests.{leb-false}
+use borrow.Author.Tests.{leb-false, le-leb, lt-leb}
 use Rattle.settings.specs.declared.Refusal.{Refusal}
 use Rattle.settings.specs.Reading.{refusal_number}
 use Rattle.model.specs.declared.CallAnswer.{CallAnswer}
@@ -27,8 +27,9 @@ use Rattle.state.specs.declared.Sched.{Sched}
 use Rattle.state.specs.Memory.{memory}
 use Rattle.state.specs.State.{firsts, core_from, states_of, meant_at, Valid}
 use Rattle.checks.specs.Check.{check_meant, core_refusal}
+use Rattle.checks.proofs.Ladder.{hit, pass}
 use Rattle.checks.proofs.Refusals.{join-refusal}
-use Rattle.checks.proofs.Answers.{taken_none, ok-unrefused}
+use Rattle.checks.proofs.Answers.{ok-unrefused}
 use Rattle.updates.specs.Pending.{Pending}
 use Rattle.thread_plan.specs.Change.{with_marks}
 use Rattle.thread_plan.specs.Reads.{own_tid, known_place}
@@ -57,8 +58,14 @@ core-rest s i running r = four _ _ _ _ r
 pub yield-stopped : (s : Sched) (i : ℕ) (r : Option ℕ) (b : CallAnswer) (x : Refusal) → b ≡ CallCases.Refused x → check_meant b ≡ core_refusal s i true none → some (refusal_number x) ≡ core_refusal s i true r
 yield-stopped s i r b x e h = sym (core-rest s i true r ∙ ap (λ (o : Option ℕ). or_rest o r) (sym h ∙ ap check_meant e))
 
-pub yield-rest : (s : Sched) (i : ℕ) (r x : Option ℕ) (b : CallAnswer) → b ≡ CallCases.Taken → check_meant b ≡ core_refusal s i true none → x ≡ r → x ≡ core_refusal s i true r
-yield-rest s i r x b e h k = k ∙ sym (core-rest s i true r ∙ ap (λ (o : Option ℕ). or_rest o r) (taken_none b (core_refusal s i true none) e h))
+-- of a core that may yield, the limit alone decides
+pub yield_over : (s : Sched) (i y : ℕ) → core_refusal s i true none ≡ none → 4_000_000_000 ≤ y → core_refusal s i true (check 19 (leb limit_now y) none) ≡ some 19
+unfolding limit_now
+yield_over s i y e h = core-rest s i true _ ∙ ap (λ (o : Option ℕ). or_rest o (check 19 (leb limit_now y) none)) e ∙ sym (hit 19 _ _ (le-leb _ _ h))
+
+pub yield_under : (s : Sched) (i y : ℕ) → core_refusal s i true none ≡ none → y < 4_000_000_000 → core_refusal s i true (check 19 (leb limit_now y) none) ≡ none
+unfolding limit_now
+yield_under s i y e h = core-rest s i true _ ∙ ap (λ (o : Option ℕ). or_rest o (check 19 (leb limit_now y) none)) e ∙ sym (pass 19 _ _ _ (lt-leb _ _ h) refl)
 
 first-none : (o r : Option ℕ) → or_rest o r ≡ none → o ≡ none
 first-none none r e = refl

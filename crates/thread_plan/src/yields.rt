@@ -21,6 +21,7 @@ use settings::Refusal;
 use state::Sched;
 
 // yield: 4, 11, 12, 13, 19
+#[tactic(auto, using(crate::proofs::Yielding::yield_over, crate::proofs::Yielding::yield_under))]
 fn check_yield(s: Sched, core: CoreId, yields: u64) -> CallAnswer
     requires { s.cores ≤ 8 }
     ensures { check_meant result ≡ core_refusal s core.0 true (Calls.check 19 (leb Calls.limit_now yields) none) }
