@@ -18,6 +18,7 @@ use Rattle.model.specs.declared.ThreadInfo.{ThreadInfo}
 use Rattle.script.specs.Report as Definition
 use Rattle.script.specs.Report.{over, feed, feeds, finish, whole}
 use Rattle.script.proofs.Streams.{whole-step, whole-end, whole-over}
+use Rattle.sched.proofs.Memory.{Lists}
 use Rattle.feed_plan.specs.declared.Stage.{Stage}
 use Rattle.feed_plan.specs.declared.Stage.TheVariants as StageCases
 use Rattle.feed_plan.specs.declared.Report.{Report}
@@ -29,14 +30,6 @@ use Rattle.report_plan.specs.Running.{Begins, printed_as}
 use Rattle.report_plan.specs.Turning.{NextAsked, NextDone, FinishAsked}
 use Rattle.report_plan.proofs.Parts.{end-room}
 use Rattle.script_report.specs.Reporting.{LinesAsked, LinesDone, Unmoved, report_in, ReportDone}
-
--- the lent memory's five slices as one value
-pub record Lists : Type 0 where
-  pub ts : List ThreadInfo
-  pub qs : List ℕ
-  pub ps : List ℕ
-  pub ls : List ℕ
-  pub ws : List ℕ
 
 abbrev pub ValidIn : Progress → Lists → Type 0
 ValidIn p z = ReportValid p.report z.ts z.qs z.ps z.ls z.ws
