@@ -1,7 +1,7 @@
 -- From a check's answer to the call's promise.
 use Prim.Native.Nat.{ℕ}
-use mathlib.Core.Path.{◌≡◌, refl, sym, ap, ◌∙◌, subst}
-use mathlib.Core.Option.{Option, none, some}
+use mathlib.Core.Path.{◌≡◌, sym, ap, ◌∙◌, subst}
+use mathlib.Core.Option.{Option, none}
 use mathlib.Core.List.{List}
 use native.Mathlib.Omega.{arith}
 use Rattle.settings.specs.declared.Refusal.{Refusal}
@@ -9,7 +9,7 @@ use Rattle.settings.specs.Reading.{refusal_number}
 use Rattle.model.specs.declared.CallAnswer.{CallAnswer}
 use Rattle.model.specs.declared.CallAnswer.TheVariants as CallCases
 use Rattle.model.specs.declared.ThreadInfo.{ThreadInfo}
-use Rattle.model.specs.Calls.{Call, Answer, refused, ok, refusal, check}
+use Rattle.model.specs.Calls.{Call, Answer, refused, ok, refusal}
 use Rattle.model.specs.Reading.{call_answer_meant}
 use Rattle.state.specs.declared.Sched.{Sched}
 use Rattle.state.specs.Memory.{memory}

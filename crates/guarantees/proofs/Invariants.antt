@@ -1,17 +1,17 @@
 -- What every run of a round robin scheduler keeps: policy and timing, how long a core may still switch, and that a reported core has its mark.
-use Prim.Native.Nat.{ℕ, zero, suc, pred, ◌+◌, ◌≤◌, ◌<◌}
+use Prim.Native.Nat.{ℕ, zero, suc, pred, ◌+◌, ◌≤◌}
 use mathlib.Core.Path.{◌≡◌, refl, sym, ap, ◌∙◌, subst}
-use mathlib.Core.Bool.{Bool, true, false, cond, ◌||◌, ◌&&◌}
+use mathlib.Core.Bool.{Bool, true, false, ◌&&◌}
 use mathlib.Core.Option.{Option, none, some}
 use mathlib.Core.List.{List, [], ◌∷◌, ◌++◌, map}
 use native.Mathlib.Omega.{arith}
-use lib.Dec.{eqb, leb, ltb}
+use lib.Dec.{eqb}
 use lib.ListN.{length, length-map, get_elem?, replicate, length-replicate}
-use borrow.Author.Tests.{eqb-true, leb-true, leb-false, ltb-false}
+use borrow.Author.Tests.{eqb-true, leb-false, ltb-false}
 use Rattle.model.specs.Invariants.{All}
 use Rattle.model.specs.Types.{Policy, RoundRobin, Priority, CoreState, Idle, Switching, Running, LeaveReason, Core, Move, starts, leaves, takes, State}
-use Rattle.model.specs.Phases.{Rules, Turn, Pass, Phase, ascend, and_then, update, dispatched_state, dispatch_moves, sliced, phase1, switched_in, is_due, phase2, leaves_for, holder, vacate, phase3, filled, phase4, hand_over, wants_hand_over, phase5, phase6, phases1_to4, decide, pick_next, ceiling_of, with_state, unyielded, cleared}
-use Rattle.model.specs.Calls.{Call, spawn, exit, join, retired, yield, priority, timing, force, tick, close, JoinOutcome, Wait, Done, Invalid, accept, stepped, refusal, rules, exited, blocking, outcome, thread_state_of, tid_on, out_of, core_state_of, sliced_all, unmarked, taken_by, forced_core, mark_exit, mark_block, mark_yield, mark_progress, priority_of, Made, made, unmade, new, made_of, refused_new, initial_state, idle_core, beyond}
+use Rattle.model.specs.Phases.{Rules, Pass, and_then, update, dispatched_state, dispatch_moves, sliced, phase1, switched_in, is_due, phase2, leaves_for, holder, vacate, phase3, filled, phase4, hand_over, phase5, phase6, phases1_to4, decide, pick_next, with_state, unyielded, cleared}
+use Rattle.model.specs.Calls.{Call, spawn, exit, join, retired, yield, priority, timing, force, tick, close, JoinOutcome, Wait, Done, Invalid, accept, stepped, rules, exited, blocking, outcome, thread_state_of, tid_on, out_of, core_state_of, sliced_all, unmarked, taken_by, forced_core, mark_exit, mark_block, mark_yield, mark_progress, Made, made, unmade, new, made_of, refused_new, initial_state, idle_core, beyond}
 use Rattle.guarantees.specs.Claims.{Observed, reports_after, reports_cleared, reports, observed, observe, timing_is, timing_kept, observe_all, refusal_of, unobserved}
 use Rattle.model.proofs.PhaseLaws.{all-update, length-update, ascend-length, ascend-all, and_l, and_r, or-false-l, not-both, phase6-rests}
 use Rattle.model.proofs.Refusals.{check-none}

@@ -4,14 +4,13 @@
 // What the last repetition left is printed. Memory is lent once: 256 threads, 512 events, 4,096 segments a core.
 #![tactic(auto)]
 
-use text::{STDIN_FILENO, STDOUT_FILENO};
 use model::{CallAnswer, ThreadInfo};
 use records::change::first_thread;
 use settings::{SchedConfig, SchedPolicy};
 use state::Capacities;
-use text::Number;
 use text::lines::piece_end;
 use text::numbers::read_number;
+use text::{Number, STDIN_FILENO, STDOUT_FILENO};
 use ticking::{LoadedArray, run_load_in};
 
 #[derive(Clone, Copy)]

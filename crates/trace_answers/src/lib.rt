@@ -5,11 +5,11 @@
 
 ghost use Rattle.std.specs.Prelude.{◌≤◌, length};
 
-use text::STDOUT_FILENO;
 use model::{CallAnswer, JoinOutcome, OptionOut, SwitchWords};
 use sched::{Applied, Outcome};
 use settings::Refusal;
 use switches::{SwitchList, switch_of};
+use text::STDOUT_FILENO;
 use trace_text::out::{put_number, put_reason, put_spaced, put_text, put_tid};
 
 fn put_refused(out: &mut [u8], at: usize, refusal: Refusal) -> usize

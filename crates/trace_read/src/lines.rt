@@ -5,14 +5,13 @@ ghost use Rattle.trace_read.specs.Script.{fields_of, or_zero, thread_said, polic
 ghost use Rattle.trace_read.specs.Parts.{is_number, are_numbers, asked_numbers, setup_in, core_call, pair_call, line_with};
 
 use crate::{Line, Setup};
-use text::scan::find;
-use text::STDIN_FILENO;
 use model::{CoreId, OptionTid, Tid};
 use sched::Call;
 use settings::{SchedConfig, SchedPolicy};
 use state::Capacities;
-use text::Number;
 use text::numbers::read_number;
+use text::scan::find;
+use text::{Number, STDIN_FILENO};
 
 // The next byte, 10 where the input has ended.
 fn read_byte() -> u8 {

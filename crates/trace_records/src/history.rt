@@ -5,11 +5,11 @@ ghost use Rattle.state.specs.Asked.{Askable, the_log, the_lanes};
 ghost use Rattle.state.specs.Memory.{memory};
 ghost use Rattle.state.specs.State.{Valid};
 
-use text::STDOUT_FILENO;
 use model::{CoreId, Lane, SchedEvent, SchedEventKind, Segment};
 use questions::lists::{event, segment};
 use questions::{OptionEvent, OptionSegment};
 use state::Sched;
+use text::STDOUT_FILENO;
 use trace_state::cores::put_asked;
 use trace_text::out::{least, put_reason, put_spaced, put_text, put_tid};
 

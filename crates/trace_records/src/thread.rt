@@ -1,9 +1,9 @@
 // One thread's record as a line.
 ghost use Rattle.std.specs.Prelude.{◌≤◌, length};
 
-use text::STDOUT_FILENO;
 use model::{OptionLeave, ThreadInfo, ThreadState, ThreadStats};
 use questions::times::{response, turnaround};
+use text::STDOUT_FILENO;
 use trace_text::out::{put_core, put_reason, put_spaced, put_text, put_tick, put_tid};
 
 fn put_life(out: &mut [u8], at: usize, state: ThreadState) -> usize

@@ -1,13 +1,9 @@
-use borrow.Author.Rules.{rules}
-use native.Mathlib.Omega.{arith}
 use mathlib.Core.Path.{refl, sym, ap, ◌∙◌}
 use borrow.Author.Tests.{le-leb, lt-leb}
 use Rattle.model.specs.declared.CoreState as Program
 use Rattle.model.specs.Reading.{core_state_meant}
 use Rattle.checks.proofs.Ladder.{hit, pass, or-first, or-second, or-none}
 use Rattle.checks.specs.Check.{stops, core_refusal}
-use Rattle.checks.proofs.check_core.Reads as reads
-use Rattle.checks.proofs.check_core.Lts as lts
 use Rattle.checks.proofs.stopped.Reads as stopped-reads
 use Rattle.state.proofs.state_at.Reads as state-at-reads
 use Rattle.checks.proofs.check_core.Goals as goal

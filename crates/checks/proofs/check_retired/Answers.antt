@@ -1,11 +1,7 @@
-use borrow.Author.Rules.{rules}
-use native.Mathlib.Omega.{arith}
 use mathlib.Core.Path.{refl}
 use borrow.Author.Tests.{le-leb, lt-leb}
 use Rattle.checks.proofs.Ladder.{hit, pass}
 use Rattle.checks.specs.Check.{retired_refusal}
-use Rattle.checks.proofs.check_retired.Reads as reads
-use Rattle.checks.proofs.check_retired.Lts as lts
 use Rattle.checks.proofs.check_retired.Goals as goal
 
 pub returns-then-s-i : goal.returns-then-s-i

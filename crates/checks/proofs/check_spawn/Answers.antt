@@ -1,11 +1,7 @@
-use borrow.Author.Rules.{rules}
-use native.Mathlib.Omega.{arith}
 use mathlib.Core.Path.{refl}
 use borrow.Author.Tests.{le-leb, lt-leb}
 use Rattle.checks.proofs.Ladder.{hit, pass}
 use Rattle.checks.specs.Check.{spawn_refusal}
-use Rattle.checks.proofs.check_spawn.Reads as reads
-use Rattle.checks.proofs.check_spawn.Lts as lts
 use Rattle.checks.proofs.check_spawn.Goals as goal
 
 pub returns-then-s : goal.returns-then-s

@@ -1,12 +1,8 @@
-use borrow.Author.Rules.{rules}
-use native.Mathlib.Omega.{arith}
 use mathlib.Core.Path.{refl}
 use borrow.Author.Tests.{le-leb, lt-leb}
 use Rattle.checks.proofs.Ladder.{hit, pass}
 use Rattle.model.specs.Calls.{limit_now}
 use Rattle.checks.specs.Check.{tick_refusal}
-use Rattle.checks.proofs.check_tick.Reads as reads
-use Rattle.checks.proofs.check_tick.Lts as lts
 use Rattle.checks.proofs.check_tick.Goals as goal
 
 pub returns-then-s : goal.returns-then-s

@@ -1,12 +1,8 @@
-use borrow.Author.Rules.{rules}
-use native.Mathlib.Omega.{arith}
 use mathlib.Core.Path.{refl}
 use borrow.Author.Tests.{lt-ltb, le-ltb}
 use Rattle.checks.proofs.Ladder.{hit, pass, or-first, or-second, or-none}
 use Rattle.model.specs.Calls.{bad_timing}
 use Rattle.checks.specs.Check.{timing_refusal}
-use Rattle.checks.proofs.check_timing.Reads as reads
-use Rattle.checks.proofs.check_timing.Lts as lts
 use Rattle.checks.proofs.check_timing.Goals as goal
 
 pub returns-then-quantum-gt1000000 : goal.returns-then-quantum-gt1000000

@@ -1,4 +1,3 @@
-use borrow.Author.Rules.{rules}
 use mathlib.Core.Path.{sym, ◌∙◌}
 use Rattle.text.specs.Lines.{needed}
 use Rattle.fields.proofs.Commas.{one_only, one_more}

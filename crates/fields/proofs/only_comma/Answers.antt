@@ -1,4 +1,3 @@
-use borrow.Author.Rules.{rules}
 use native.Mathlib.Omega.{arith}
 use Rattle.fields.proofs.Commas.{comma-none, comma-more, comma-one}
 use Rattle.fields.proofs.only_comma.Goals as goal

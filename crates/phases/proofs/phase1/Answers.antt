@@ -1,15 +1,13 @@
 use borrow.Author.Rules.{rules}
 use native.Mathlib.Omega.{arith}
-use Prim.Native.Nat.{ℕ, ◌-◌, ◌≤◌}
-use mathlib.Core.Path.{◌≡◌, sym, subst}
-use mathlib.Core.Bool.{Bool, false}
-use mathlib.Core.List.{List, []}
-use lib.ListN.{length, get_or, length-set}
-use Rattle.model.specs.Types.{Move}
+use Prim.Native.Nat.{◌-◌}
+use mathlib.Core.Path.{sym, subst}
+use mathlib.Core.Bool.{false}
+use mathlib.Core.List.{[]}
+use lib.ListN.{get_or, length-set}
 use Rattle.model.specs.Phases
 use Rattle.turns.specs.Turns.{Short}
 use Rattle.turns.proofs.Steps.{besides-same, phase1-turn}
-use Rattle.phases.specs.Cores.{core_at, Ran}
 use Rattle.phases.proofs.Loops.{loop-start, loop-end, core-turn, rest-core}
 use Rattle.phases.proofs.phase1.Goals as goal
 

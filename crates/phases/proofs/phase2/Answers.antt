@@ -1,16 +1,13 @@
 use borrow.Author.Rules.{rules}
 use native.Mathlib.Omega.{arith}
-use Prim.Native.Nat.{ℕ, ◌-◌, ◌≤◌}
-use mathlib.Core.Path.{◌≡◌, refl, sym, ◌∙◌}
-use mathlib.Core.Bool.{Bool, false}
-use mathlib.Core.List.{List}
-use lib.ListN.{length, get_or, length-set}
+use Prim.Native.Nat.{◌-◌}
+use mathlib.Core.Path.{refl, sym, ◌∙◌}
+use mathlib.Core.Bool.{false}
+use lib.ListN.{get_or, length-set}
 use borrow.Author.Tests.{not-true}
 use Rattle.model.specs.Phases
-use Rattle.queue.specs.Words.{moves_in, Appended}
 use Rattle.queue.proofs.Frames.{appended-none, appended-both, appended-room}
 use Rattle.turns.proofs.Steps.{besides-same, phase2-pass}
-use Rattle.phases.specs.Cores.{core_at, Ran}
 use Rattle.phases.proofs.Loops.{loop-start, loop-end, core-turn, core-unmoved}
 use Rattle.phases.proofs.phase2.Goals as goal
 

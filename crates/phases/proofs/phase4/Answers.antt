@@ -1,17 +1,13 @@
 use borrow.Author.Rules.{rules}
 use native.Mathlib.Omega.{arith}
-use Prim.Native.Nat.{ℕ, ◌*◌, ◌-◌, ◌≤◌}
-use mathlib.Core.Path.{◌≡◌, refl, sym, ◌∙◌}
-use mathlib.Core.Bool.{Bool, false}
-use mathlib.Core.List.{List}
-use lib.ListN.{length, take, get_or, length-set}
+use Prim.Native.Nat.{◌-◌}
+use mathlib.Core.Path.{refl, sym, ◌∙◌}
+use mathlib.Core.Bool.{false}
+use lib.ListN.{get_or, length-set}
 use borrow.Author.Tests.{not-true}
 use Rattle.model.specs.Phases
-use Rattle.queue.specs.Words.{moves_in, Appended, NoLonger}
 use Rattle.queue.proofs.Frames.{appended-none, appended-both, appended-room, no-longer-same, no-longer-both}
-use Rattle.turns.specs.Turns.{rules_of}
 use Rattle.turns.proofs.Steps.{besides-same, phase4-pass}
-use Rattle.phases.specs.Cores.{core_at, Ran}
 use Rattle.phases.proofs.Loops.{loop-start, loop-end, core-turn, core-unmoved}
 use Rattle.phases.proofs.phase4.Goals as goal
 

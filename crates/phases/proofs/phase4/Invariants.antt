@@ -1,19 +1,13 @@
 -- `phases::phase4` meets its contract. Assumes nothing.
-use borrow.Author.Rules.{rules}
-use native.Mathlib.Omega.{arith}
 use Prim.Native.Nat.{ℕ, ◌*◌, ◌-◌, ◌≤◌}
-use mathlib.Core.Path.{◌≡◌, refl, sym, ◌∙◌}
-use mathlib.Core.Bool.{Bool, false}
+use mathlib.Core.Path.{◌≡◌}
+use mathlib.Core.Bool.{Bool}
 use mathlib.Core.List.{List}
-use lib.ListN.{length, take, get_or, length-set}
-use borrow.Author.Tests.{not-true}
+use lib.ListN.{length, take}
 use Rattle.model.specs.Phases
 use Rattle.queue.specs.Words.{moves_in, Appended, NoLonger}
-use Rattle.queue.proofs.Frames.{appended-none, appended-both, appended-room, no-longer-same, no-longer-both}
 use Rattle.turns.specs.Turns.{rules_of}
-use Rattle.turns.proofs.Steps.{besides-same, phase4-pass}
 use Rattle.phases.specs.Cores.{core_at, Ran}
-use Rattle.phases.proofs.Loops.{loop-start, loop-end, core-turn, core-unmoved}
 use Rattle.phases.proofs.phase4.Given as goal
 
 abbrev pub invariant-loop-i : goal.invariant-loop-i

@@ -1,12 +1,11 @@
 use borrow.Author.Rules.{rules}
 use native.Mathlib.Omega.{arith}
-use Prim.Native.Nat.{◌≤◌, ◌-◌}
+use Prim.Native.Nat.{◌-◌}
 use mathlib.Core.Path.{ap}
-use mathlib.Core.Bool.{Bool}
-use mathlib.Core.List.{List, []}
+use mathlib.Core.List.{[]}
 use Rattle.model.specs.Reading.{core_state_meant}
 use Rattle.queue.specs.Ready.{prio_of}
-use Rattle.preempt.proofs.Victims.{Seek, seek-start, seek-idle, seek-switching, seek-take, seek-keep, seek-end, seek-within}
+use Rattle.preempt.proofs.Victims.{seek-start, seek-idle, seek-switching, seek-take, seek-keep, seek-end, seek-within}
 use Rattle.preempt.proofs.least_urgent.Goals as goal
 
 pub loop-i-init : goal.loop-i-init

@@ -1,13 +1,9 @@
 -- `preempt::least_urgent` meets its contract. Assumes nothing.
-use borrow.Author.Rules.{rules}
-use native.Mathlib.Omega.{arith}
 use Prim.Native.Nat.{◌≤◌, ◌-◌}
-use mathlib.Core.Path.{ap}
 use mathlib.Core.Bool.{Bool}
-use mathlib.Core.List.{List, []}
-use Rattle.model.specs.Reading.{core_state_meant}
+use mathlib.Core.List.{List}
 use Rattle.queue.specs.Ready.{prio_of}
-use Rattle.preempt.proofs.Victims.{Seek, seek-start, seek-idle, seek-switching, seek-take, seek-keep, seek-end, seek-within}
+use Rattle.preempt.proofs.Victims.{Seek}
 use Rattle.preempt.proofs.least_urgent.Given as goal
 
 abbrev pub invariant-loop-i : goal.invariant-loop-i

@@ -1,5 +1,4 @@
 -- `preempt::phase6` meets its contract. Assumes nothing.
-use borrow.Author.Rules.{rules}
 use mathlib.Core.Path.{◌≡◌, refl, ap, sym, ◌∙◌}
 use Rattle.settings.specs.Reading.{policy_meant}
 use Rattle.model.specs.Types.{Priority, Off, Fifo, RoundRobin}

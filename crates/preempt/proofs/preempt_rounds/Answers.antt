@@ -1,16 +1,10 @@
 use borrow.Author.Rules.{rules}
 use native.Mathlib.Omega.{arith}
-use Prim.Native.Nat.{ℕ, ◌*◌, ◌-◌, ◌≤◌}
-use mathlib.Core.Path.{◌≡◌, refl, ap, ◌∙◌}
-use mathlib.Core.Bool.{Bool}
-use mathlib.Core.List.{List}
-use lib.ListN.{length, take, length-set}
-use Rattle.settings.specs.declared.SchedPolicy.{SchedPolicy}
-use Rattle.model.specs.Phases.{preempt_rounds}
-use Rattle.queue.specs.Words.{Appended, NoLonger}
+use Prim.Native.Nat.{◌-◌}
+use mathlib.Core.Path.{refl, ap, ◌∙◌}
+use lib.ListN.{take, length-set}
 use Rattle.queue.proofs.Frames.{appended-none, appended-both, appended-room, no-longer-same, no-longer-both}
 use Rattle.turns.specs.Turns.{rules_of}
-use Rattle.phases.specs.Cores.{core_at, observed}
 use Rattle.preempt.specs.declared.NextPreemption.{NextPreemption}
 use Rattle.preempt.specs.Preemptions.{preemption_meant}
 use Rattle.preempt.proofs.Rounds.{rounds-start, rounds-rest, rounds-end, rounds-go, preempted-pass, preempted-others, below}

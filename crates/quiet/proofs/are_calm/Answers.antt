@@ -1,6 +1,5 @@
 use mathlib.Core.Path.{◌≡◌}
 use mathlib.Core.Bool.{true}
-use borrow.Author.Rules.{rules}
 use borrow.Author.Tests.{not-true}
 use Rattle.quiet.proofs.Cores.{test_at, calm-not, calm_pass, calm-one, calm-last, seven}
 use Rattle.quiet.proofs.are_calm.Goals as goal

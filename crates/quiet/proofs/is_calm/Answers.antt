@@ -2,7 +2,6 @@ use Prim.Native.Nat.{suc}
 use mathlib.Core.Bool.{false}
 use lib.Dec.{leb}
 use lib.ListN.{get_or}
-use borrow.Author.Rules.{rules}
 use borrow.Author.Tests.{not-true, not-false}
 use Rattle.quiet.proofs.Words.{unused, not-held, held, unspent, short-of}
 use Rattle.quiet.proofs.is_calm.Goals as goal

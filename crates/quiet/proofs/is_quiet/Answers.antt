@@ -1,4 +1,3 @@
-use borrow.Author.Rules.{rules}
 use Rattle.quiet.proofs.Cores.{quiet-priority, quiet-others}
 use Rattle.quiet.proofs.is_quiet.Goals as goal
 

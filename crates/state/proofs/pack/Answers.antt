@@ -1,4 +1,3 @@
-use borrow.Author.Rules.{rules}
 use mathlib.Core.Path.{sym, ◌∙◌}
 use Rattle.state.proofs.Whole.{whole}
 use Rattle.model.specs.declared.CoreState.TheVariants as CoreStateCases

@@ -5,9 +5,6 @@ use lib.ListN.{get_or, get_or-eq_default}
 use Rattle.model.specs.declared.CoreState as Program
 use Rattle.model.specs.declared.CoreState.TheVariants
 use Rattle.state.specs.State.{states_of}
-use borrow.Author.Rules.{rules}
-use Rattle.state.proofs.state_at.Reads as reads
-use Rattle.state.proofs.state_at.Lts as lts
 use Rattle.state.proofs.unpack.Reads as unpack-reads
 use Rattle.state.proofs.state_at.Goals as goal
 

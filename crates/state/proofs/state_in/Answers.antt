@@ -1,5 +1,3 @@
-use borrow.Author.Rules.{rules}
-use mathlib.Core.Path.{sym, ap}
 use Rattle.state.proofs.Words.{switching-from, running-from}
 use Rattle.state.proofs.state_in.Goals as goal
 

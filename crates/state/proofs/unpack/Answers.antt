@@ -1,4 +1,3 @@
-use borrow.Author.Rules.{rules}
 use Rattle.state.proofs.Words.{all-eight}
 use Rattle.state.proofs.unpack.Goals as goal
 

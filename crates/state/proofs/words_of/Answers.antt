@@ -1,4 +1,3 @@
-use borrow.Author.Rules.{rules}
 use Rattle.state.proofs.words_of.Goals as goal
 
 pub returns-in-Idle : goal.returns-in-Idle

@@ -1,5 +1,4 @@
 -- `switches::entry_after` meets its contract. Assumes nothing.
-use borrow.Author.Rules.{rules}
 use Rattle.switches.proofs.Words.{left-words, came-words}
 use Rattle.switches.proofs.entry_after.Goals as goal
 

@@ -1,5 +1,4 @@
 -- `switches::reason_word` meets its contract. Assumes nothing.
-use borrow.Author.Rules.{rules}
 use Rattle.switches.specs.Entries.{reason_number}
 use Rattle.switches.proofs.reason_word.Goals as goal
 

@@ -1,11 +1,11 @@
 use borrow.Author.Rules.{rules}
 use native.Mathlib.Omega.{arith}
-use Prim.Native.Nat.{◌≤◌, ◌-◌}
-use mathlib.Core.Path.{◌≡◌, ◌∙◌}
+use Prim.Native.Nat.{◌-◌}
+use mathlib.Core.Path.{◌≡◌}
 use mathlib.Core.List.{[]}
 use Rattle.model.specs.Accounting.{switch_list}
 use Rattle.queue.specs.Words.{moves_in, move_meant}
-use Rattle.switches.proofs.Stored.{Listed, listed-none, turn-same, turn-room, turn_more, listed-is}
+use Rattle.switches.proofs.Stored.{listed-none, turn-same, turn-room, turn_more, listed-is}
 use Rattle.switches.proofs.switch_list.Goals as goal
 
 pub loop-k-init : goal.loop-k-init

@@ -1,12 +1,9 @@
 -- `switches::switch_list` meets its contract. Assumes nothing.
-use borrow.Author.Rules.{rules}
-use native.Mathlib.Omega.{arith}
 use Prim.Native.Nat.{◌≤◌, ◌-◌}
-use mathlib.Core.Path.{◌≡◌, ◌∙◌}
 use mathlib.Core.List.{[]}
 use Rattle.model.specs.Accounting.{switch_list}
-use Rattle.queue.specs.Words.{moves_in, move_meant}
-use Rattle.switches.proofs.Stored.{Listed, listed-none, turn-same, turn-room, turn_more, listed-is}
+use Rattle.queue.specs.Words.{moves_in}
+use Rattle.switches.proofs.Stored.{Listed}
 use Rattle.switches.proofs.switch_list.Given as goal
 
 abbrev pub invariant-loop-k : goal.invariant-loop-k

@@ -1,7 +1,4 @@
 -- `switches::switch_of` meets its contract. Assumes nothing.
-use borrow.Author.Rules.{rules}
-use mathlib.Core.Path.{◌≡◌, ap}
-use Rattle.model.specs.Reading.{option_out_meant, out_from}
 use Rattle.switches.proofs.Stored.{came_from}
 use Rattle.switches.proofs.switch_of.Goals as goal
 

@@ -1,9 +1,7 @@
 use borrow.Author.Rules.{rules}
 use native.Mathlib.Omega.{arith}
-use Prim.Native.Nat.{◌-◌, ◌≤◌}
-use mathlib.Core.Path.{◌≡◌}
-use lib.ListN.{length, length-set}
-use Rattle.accounts.specs.Charging.{TicksCharged}
+use Prim.Native.Nat.{◌-◌}
+use lib.ListN.{length-set}
 use Rattle.accounts.proofs.Counting.{ticks-none, ticks-next, ticks-end}
 use Rattle.accounts.proofs.counters.charge_ticks.Goals as goal
 

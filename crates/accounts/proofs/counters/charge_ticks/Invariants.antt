@@ -1,10 +1,7 @@
-use borrow.Author.Rules.{rules}
-use native.Mathlib.Omega.{arith}
 use Prim.Native.Nat.{◌-◌, ◌≤◌}
 use mathlib.Core.Path.{◌≡◌}
-use lib.ListN.{length, length-set}
+use lib.ListN.{length}
 use Rattle.accounts.specs.Charging.{TicksCharged}
-use Rattle.accounts.proofs.Counting.{ticks-none, ticks-next, ticks-end}
 use Rattle.accounts.proofs.counters.charge_ticks.Given as goal
 
 abbrev pub invariant-loop-i : goal.invariant-loop-i

@@ -1,9 +1,7 @@
 use borrow.Author.Rules.{rules}
 use native.Mathlib.Omega.{arith}
-use Prim.Native.Nat.{◌-◌, ◌≤◌}
+use Prim.Native.Nat.{◌-◌}
 use mathlib.Core.Path.{◌≡◌}
-use Rattle.model.specs.Accounting.{takes_in}
-use Rattle.queue.specs.Words.{moves_in}
 use Rattle.accounts.proofs.Counting.{takes_none, takes-next}
 use Rattle.accounts.proofs.counters.count_takes.Goals as goal
 

@@ -1,11 +1,8 @@
-use borrow.Author.Rules.{rules}
-use native.Mathlib.Omega.{arith}
-use Prim.Native.Nat.{◌+◌, ◌*◌, ◌-◌, ◌≤◌}
-use mathlib.Core.Path.{◌≡◌, refl, sym, ◌∙◌}
-use lib.ListN.{length, length-set}
+use Prim.Native.Nat.{◌-◌, ◌≤◌}
+use mathlib.Core.Path.{◌≡◌}
+use lib.ListN.{length}
 use Rattle.state.specs.State.{lane_start}
 use Rattle.accounts.specs.Charging.{LanesCharged}
-use Rattle.accounts.proofs.Timelines.{lanes-none, lanes_next, lanes-same, lanes_end, next-ok, next_start, lane_inside, same-pos}
 use Rattle.accounts.proofs.lanes.charge_lanes.Given as goal
 
 abbrev pub invariant-loop-i : goal.invariant-loop-i

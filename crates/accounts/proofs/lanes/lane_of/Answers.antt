@@ -1,4 +1,3 @@
-use borrow.Author.Rules.{rules}
 use Rattle.accounts.proofs.lanes.lane_of.Goals as goal
 
 pub returns-in-Switching : goal.returns-in-Switching

@@ -1,13 +1,11 @@
 use borrow.Author.Rules.{rules}
 use native.Mathlib.Omega.{arith}
-use Prim.Native.Nat.{◌-◌, ◌≤◌}
+use Prim.Native.Nat.{◌-◌}
 use mathlib.Core.Path.{◌≡◌, ◌∙◌}
 use lib.ListN.{length}
-use Rattle.queue.specs.Words.{moves_in, move_meant}
-use Rattle.rings.specs.Ring.{capacity, RingOK, Behind}
+use Rattle.queue.specs.Words.{move_meant}
 use Rattle.rings.specs.Events.{events_in}
 use Rattle.rings.proofs.EntryLaws.{behind-none, behind-both}
-use Rattle.accounts.specs.Log.{moved_log}
 use Rattle.accounts.proofs.Logging.{moved_none, moved-next}
 use Rattle.accounts.proofs.log.log_moves.Goals as goal
 

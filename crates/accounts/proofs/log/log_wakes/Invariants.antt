@@ -1,13 +1,9 @@
-use borrow.Author.Rules.{rules}
-use native.Mathlib.Omega.{arith}
 use Prim.Native.Nat.{◌-◌, ◌≤◌}
-use mathlib.Core.Path.{◌≡◌, ◌∙◌}
+use mathlib.Core.Path.{◌≡◌}
 use lib.ListN.{length, take, drop}
 use Rattle.rings.specs.Ring.{capacity, RingOK, Behind}
 use Rattle.rings.specs.Events.{events_in}
-use Rattle.rings.proofs.EntryLaws.{behind-none, behind-both}
 use Rattle.accounts.specs.Log.{woken_log}
-use Rattle.accounts.proofs.Logging.{woken-none, woken-next}
 use Rattle.accounts.proofs.log.log_wakes.Given as goal
 
 abbrev pub invariant-loop-k : goal.invariant-loop-k

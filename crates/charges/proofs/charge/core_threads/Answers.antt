@@ -1,8 +1,7 @@
 use borrow.Author.Rules.{rules}
-use Prim.Native.Nat.{◌≤◌, ◌-◌}
-use mathlib.Core.Path.{◌≡◌, refl}
-use mathlib.Core.List.{map}
-use lib.ListN.{length, take, length-set}
+use Prim.Native.Nat.{◌-◌}
+use mathlib.Core.Path.{refl}
+use lib.ListN.{length-set}
 use Rattle.charges.specs.Charging.{holder_word, is_running}
 use Rattle.charges.proofs.Charging.{filled, all-filled}
 use Rattle.charges.proofs.charge.core_threads.Goals as goal

@@ -1,10 +1,8 @@
-use borrow.Author.Rules.{rules}
 use Prim.Native.Nat.{◌≤◌, ◌-◌}
-use mathlib.Core.Path.{◌≡◌, refl}
+use mathlib.Core.Path.{◌≡◌}
 use mathlib.Core.List.{map}
-use lib.ListN.{length, take, length-set}
+use lib.ListN.{length, take}
 use Rattle.charges.specs.Charging.{holder_word, is_running}
-use Rattle.charges.proofs.Charging.{filled, all-filled}
 use Rattle.charges.proofs.charge.core_threads.Given as goal
 
 abbrev pub invariant-loop-k : goal.invariant-loop-k

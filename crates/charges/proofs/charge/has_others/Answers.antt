@@ -1,4 +1,3 @@
-use borrow.Author.Rules.{rules}
 use mathlib.Core.Path.{refl}
 use Rattle.charges.specs.Charging.{has_others}
 use Rattle.charges.proofs.charge.has_others.Goals as goal

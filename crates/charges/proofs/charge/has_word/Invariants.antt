@@ -1,11 +1,7 @@
-use borrow.Author.Rules.{rules}
 use Prim.Native.Nat.{◌≤◌, ◌-◌}
-use mathlib.Core.Path.{◌≡◌, refl, ap, ◌∙◌}
-use mathlib.Core.Logic.{⊎_elim}
+use mathlib.Core.Path.{◌≡◌}
 use lib.ListN.{take}
-use lib.Seq.{take_all}
 use Rattle.model.specs.Calls.{elem}
-use Rattle.charges.proofs.Charging.{elem-hit, elem-miss}
 use Rattle.charges.proofs.charge.has_word.Given as goal
 
 abbrev pub invariant-loop-k : goal.invariant-loop-k

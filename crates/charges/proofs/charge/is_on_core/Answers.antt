@@ -1,6 +1,6 @@
 use borrow.Author.Rules.{rules}
 use borrow.Author.Tests.{ne_eqb, not-true}
-use mathlib.Core.Path.{◌≡◌, sym, ◌∙◌}
+use mathlib.Core.Path.{sym, ◌∙◌}
 use Rattle.charges.proofs.Alone.{only-first, first_holds}
 use Rattle.charges.proofs.charge.is_on_core.Goals as goal
 

@@ -1,4 +1,3 @@
-use borrow.Author.Rules.{rules}
 use Rattle.script.specs.Script.{calling}
 use Rattle.commands.proofs.calls.call_of.Goals as goal
 

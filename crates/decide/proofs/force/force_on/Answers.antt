@@ -1,5 +1,4 @@
 -- `decide::force::force_on` meets its contract. Assumes nothing.
-use borrow.Author.Rules.{rules}
 use native.Mathlib.Omega.{arith}
 use lib.ListN.{take, get_or}
 use Rattle.model.specs.Reading.{core_state_meant}

@@ -1,5 +1,4 @@
 -- `decide::force::forced_place` meets its contract. Assumes nothing.
-use borrow.Author.Rules.{rules}
 use mathlib.Core.Path.{refl}
 use Rattle.decide.proofs.force.forced_place.Goals as goal
 

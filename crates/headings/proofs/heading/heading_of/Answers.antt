@@ -1,4 +1,3 @@
-use borrow.Author.Rules.{rules}
 use Rattle.script.specs.Script.{heading}
 use Rattle.headings.proofs.heading.heading_of.Goals as goal
 

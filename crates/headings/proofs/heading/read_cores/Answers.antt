@@ -1,4 +1,3 @@
-use borrow.Author.Rules.{rules}
 use mathlib.Core.Path.{sym, ap, ◌∙◌}
 use Rattle.rcfg.specs.Reading.{head_meant}
 use Rattle.fields.specs.Reading.{number_read_meant}

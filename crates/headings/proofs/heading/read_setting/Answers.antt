@@ -1,4 +1,3 @@
-use borrow.Author.Rules.{rules}
 use mathlib.Core.Path.{sym, ap, ◌∙◌}
 use Rattle.text.specs.Lines.{Read, map_read}
 use Rattle.settings.specs.Settings.{Head}

@@ -1,16 +1,13 @@
-use borrow.Author.Rules.{rules}
 use native.Mathlib.Omega.{arith}
 use mathlib.Core.Path.{◌≡◌, refl, sym, ◌∙◌, subst}
-use mathlib.Core.Bool.{Bool}
 use mathlib.Core.List.{List}
-use Prim.Native.Nat.{ℕ, ◌≤◌, ◌-◌}
+use Prim.Native.Nat.{◌-◌}
 use native.Mathlib.Numerals.{add-one}
 use Rattle.model.specs.declared.CoreState as Program
-use Rattle.model.specs.Calls.{idle_core}
 use Rattle.state.specs.declared.Sched.{Sched}
 use Rattle.state.specs.Memory.{Memory}
 use Rattle.state.specs.State.{core_from, states_of, Valid}
-use Rattle.questions.proofs.CoreLaws.{from, find-pass, find-here, find_none, core-found}
+use Rattle.questions.proofs.CoreLaws.{find-pass, find-here, find_none, core-found}
 use Rattle.questions.proofs.cores.core_of.Invariants.{Board}
 use Rattle.questions.proofs.cores.core_of.Goals as goal
 

@@ -1,17 +1,12 @@
 -- of n cores with these marks, those behind the last are idle
-use borrow.Author.Rules.{rules}
-use native.Mathlib.Omega.{arith}
-use mathlib.Core.Path.{◌≡◌, refl, sym, ◌∙◌, subst}
+use mathlib.Core.Path.{◌≡◌}
 use mathlib.Core.Bool.{Bool}
 use mathlib.Core.List.{List}
 use Prim.Native.Nat.{ℕ, ◌≤◌, ◌-◌}
-use native.Mathlib.Numerals.{add-one}
 use Rattle.model.specs.declared.CoreState as Program
 use Rattle.model.specs.Calls.{idle_core}
-use Rattle.state.specs.declared.Sched.{Sched}
-use Rattle.state.specs.Memory.{Memory}
-use Rattle.state.specs.State.{core_from, states_of, Valid}
-use Rattle.questions.proofs.CoreLaws.{from, find-pass, find-here, find_none, core-found}
+use Rattle.state.specs.State.{core_from}
+use Rattle.questions.proofs.CoreLaws.{from}
 use Rattle.questions.proofs.cores.core_of.Given as goal
 
 abbrev pub Board : List Program.CoreState → (ex bl yi pr : List Bool) → ℕ → Type 0

@@ -1,11 +1,7 @@
-use borrow.Author.Rules.{rules}
-use native.Mathlib.Omega.{arith}
 use mathlib.Core.Path.{ap, ◌∙◌}
 use Rattle.model.specs.declared.CoreState as Program
 use Rattle.model.specs.Reading.{core_state_meant}
 use Rattle.questions.proofs.CoreLaws.{core-state-is}
-use Rattle.questions.proofs.cores.core_state.Reads as reads
-use Rattle.questions.proofs.cores.core_state.Lts as lts
 use Rattle.state.proofs.state_at.Reads as state-at-reads
 use Rattle.questions.proofs.cores.core_state.Goals as goal
 

@@ -1,4 +1,3 @@
-use borrow.Author.Rules.{rules}
 use Rattle.questions.proofs.CoreLaws.{counters-at, counters-behind}
 use Rattle.questions.proofs.cores.core_ticks.Goals as goal
 

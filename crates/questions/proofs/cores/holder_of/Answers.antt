@@ -1,7 +1,3 @@
-use borrow.Author.Rules.{rules}
-use native.Mathlib.Omega.{arith}
-use Rattle.questions.proofs.cores.holder_of.Reads as reads
-use Rattle.questions.proofs.cores.holder_of.Lts as lts
 use Rattle.questions.proofs.cores.holder_of.Goals as goal
 
 pub returns-in-Switching : goal.returns-in-Switching

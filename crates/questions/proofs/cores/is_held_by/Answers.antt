@@ -1,8 +1,4 @@
-use borrow.Author.Rules.{rules}
-use native.Mathlib.Omega.{arith}
 use Rattle.model.specs.Accounting.{is_holder}
-use Rattle.questions.proofs.cores.is_held_by.Reads as reads
-use Rattle.questions.proofs.cores.is_held_by.Lts as lts
 use Rattle.questions.proofs.cores.is_held_by.Goals as goal
 
 pub returns-in-Idle : goal.returns-in-Idle

@@ -1,9 +1,4 @@
-use borrow.Author.Rules.{rules}
-use native.Mathlib.Omega.{arith}
-use mathlib.Core.Path.{refl}
 use Rattle.model.specs.Questions.{runner}
-use Rattle.questions.proofs.cores.running_in.Reads as reads
-use Rattle.questions.proofs.cores.running_in.Lts as lts
 use Rattle.questions.proofs.cores.running_in.Goals as goal
 
 pub returns-in-Idle : goal.returns-in-Idle

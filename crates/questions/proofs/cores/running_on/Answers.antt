@@ -1,9 +1,5 @@
-use borrow.Author.Rules.{rules}
-use native.Mathlib.Omega.{arith}
 use mathlib.Core.Path.{ap, ◌∙◌}
 use Rattle.model.specs.Questions.{runner, running_on}
-use Rattle.questions.proofs.cores.running_on.Reads as reads
-use Rattle.questions.proofs.cores.running_on.Lts as lts
 use Rattle.questions.proofs.cores.core_state.Reads as core-state-reads
 use Rattle.questions.proofs.cores.running_in.Reads as running-in-reads
 use Rattle.questions.proofs.cores.running_on.Goals as goal

@@ -1,10 +1,6 @@
-use borrow.Author.Rules.{rules}
-use native.Mathlib.Omega.{arith}
 use mathlib.Core.Path.{ap, ◌∙◌}
 use Rattle.model.specs.Phases.{holder}
 use Rattle.model.specs.Questions.{thread_on}
-use Rattle.questions.proofs.cores.thread_on.Reads as reads
-use Rattle.questions.proofs.cores.thread_on.Lts as lts
 use Rattle.questions.proofs.cores.core_state.Reads as core-state-reads
 use Rattle.questions.proofs.cores.holder_of.Reads as holder-of-reads
 use Rattle.questions.proofs.cores.thread_on.Goals as goal

@@ -1,4 +1,3 @@
-use borrow.Author.Rules.{rules}
 use Rattle.questions.proofs.CoreLaws.{event-count-is}
 use Rattle.questions.proofs.lists.event_count.Goals as goal
 

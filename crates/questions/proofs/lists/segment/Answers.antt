@@ -1,13 +1,12 @@
-use borrow.Author.Rules.{rules}
 use native.Mathlib.Omega.{arith}
-use Prim.Native.Nat.{ℕ, ◌+◌, ◌*◌, ◌≤◌}
+use Prim.Native.Nat.{ℕ}
 use mathlib.Core.Path.{sym, ap, ◌∙◌, subst}
 use mathlib.Core.List.{List}
-use lib.ListN.{length, get_or, get_elem?}
+use lib.ListN.{get_or, get_elem?}
 use Rattle.model.specs.Types.{Segment}
 use Rattle.rings.specs.Ring.{RingOK}
 use Rattle.rings.specs.Timeline.{segments_in}
-use Rattle.state.specs.State.{lane_start, lane_words, no_pos}
+use Rattle.state.specs.State.{lane_words, no_pos}
 use Rattle.questions.proofs.CoreLaws.{timeline-at, timeline-behind, segments-end, lane-fits, lane-ring, lane-part}
 use Rattle.questions.proofs.lists.segment.Goals as goal
 

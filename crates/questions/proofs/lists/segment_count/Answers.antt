@@ -1,4 +1,3 @@
-use borrow.Author.Rules.{rules}
 use mathlib.Core.Path.{sym, ap}
 use lib.ListN.{length}
 use Rattle.questions.proofs.CoreLaws.{timeline-behind, segment-count-is}

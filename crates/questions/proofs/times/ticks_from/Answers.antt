@@ -1,11 +1,8 @@
-use borrow.Author.Rules.{rules}
 use native.Mathlib.Omega.{arith}
-use mathlib.Core.Path.{◌≡◌, ap}
+use mathlib.Core.Path.{ap}
 use mathlib.Core.Option.{some}
-use Prim.Native.Nat.{ℕ, ◌-◌}
+use Prim.Native.Nat.{◌-◌}
 use Rattle.model.specs.Questions.{passed}
-use Rattle.questions.proofs.times.ticks_from.Reads as reads
-use Rattle.questions.proofs.times.ticks_from.Lts as lts
 use Rattle.questions.proofs.times.ticks_from.Goals as goal
 
 pub returns-then-t-arrival : goal.returns-then-t-arrival

@@ -1,5 +1,4 @@
 -- `queue::moves::move_at` meets its contract. Assumes nothing.
-use borrow.Author.Rules.{rules}
 use Prim.Native.Nat.{◌%◌}
 use lib.ListN.{get_or}
 use Rattle.queue.proofs.Words.{is-start}

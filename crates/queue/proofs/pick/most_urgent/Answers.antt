@@ -1,9 +1,8 @@
 use borrow.Author.Rules.{rules}
 use native.Mathlib.Omega.{arith}
-use Prim.Native.Nat.{◌≤◌, ◌-◌}
-use lib.ListN.{take, drop}
+use Prim.Native.Nat.{◌-◌}
 use Rattle.queue.specs.Ready.{prio_of}
-use Rattle.queue.proofs.Scan.{Scan, down-start, down-take, down-keep, down-end, down-any}
+use Rattle.queue.proofs.Scan.{down-start, down-take, down-keep, down-end, down-any}
 use Rattle.queue.proofs.pick.most_urgent.Goals as goal
 
 pub loop-i-init : goal.loop-i-init

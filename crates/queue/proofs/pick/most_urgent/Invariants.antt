@@ -1,10 +1,8 @@
 -- `queue::pick::most_urgent` meets its contract. Assumes nothing.
-use borrow.Author.Rules.{rules}
-use native.Mathlib.Omega.{arith}
 use Prim.Native.Nat.{◌≤◌, ◌-◌}
 use lib.ListN.{take, drop}
 use Rattle.queue.specs.Ready.{prio_of}
-use Rattle.queue.proofs.Scan.{Scan, down-start, down-take, down-keep, down-end, down-any}
+use Rattle.queue.proofs.Scan.{Scan}
 use Rattle.queue.proofs.pick.most_urgent.Given as goal
 
 abbrev pub invariant-loop-i : goal.invariant-loop-i

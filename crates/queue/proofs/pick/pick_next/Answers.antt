@@ -1,5 +1,4 @@
 -- `queue::pick::pick_next` meets its contract. Assumes nothing.
-use borrow.Author.Rules.{rules}
 use Rattle.model.specs.Phases.{choose, eligible}
 use Rattle.queue.proofs.Scan.{front}
 use Rattle.queue.proofs.pick.pick_next.Goals as goal

@@ -1,5 +1,4 @@
 -- `queue::pick::priority_of` meets its contract. Assumes nothing.
-use borrow.Author.Rules.{rules}
 use mathlib.Core.Path.{sym}
 use lib.ListN.{get_or-eq_default}
 use Rattle.queue.proofs.pick.priority_of.Goals as goal

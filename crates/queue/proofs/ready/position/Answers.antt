@@ -1,8 +1,8 @@
 use borrow.Author.Rules.{rules}
 use native.Mathlib.Omega.{arith}
-use Prim.Native.Nat.{◌≤◌, ◌-◌}
+use Prim.Native.Nat.{◌-◌}
 use borrow.Author.Count.{below_more}
-use Rattle.queue.proofs.Search.{NotBefore, position_here, position-none}
+use Rattle.queue.proofs.Search.{position_here, position-none}
 use Rattle.queue.proofs.ready.position.Goals as goal
 
 pub loop-i-init : goal.loop-i-init

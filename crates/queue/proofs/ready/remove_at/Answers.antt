@@ -1,10 +1,10 @@
 use borrow.Author.Rules.{rules}
 use native.Mathlib.Omega.{arith}
-use Prim.Native.Nat.{◌≤◌, ◌<◌, ◌-◌, suc}
+use Prim.Native.Nat.{◌-◌, suc}
 use mathlib.Core.Path.{◌≡◌, sym}
 use native.Mathlib.Numerals.{add-one}
-use lib.ListN.{length, length-set}
-use Rattle.queue.proofs.Slide.{slid, slid-start, slid-step, slid-end, slid-behind}
+use lib.ListN.{length-set}
+use Rattle.queue.proofs.Slide.{slid-start, slid-step, slid-end, slid-behind}
 use Rattle.queue.proofs.ready.remove_at.Goals as goal
 
 pub loop-i-init : goal.loop-i-init

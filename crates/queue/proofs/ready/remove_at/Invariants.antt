@@ -1,11 +1,8 @@
 -- `queue::ready::remove_at` meets its contract. Assumes nothing.
-use borrow.Author.Rules.{rules}
-use native.Mathlib.Omega.{arith}
-use Prim.Native.Nat.{◌≤◌, ◌<◌, ◌-◌, suc}
-use mathlib.Core.Path.{◌≡◌, sym}
-use native.Mathlib.Numerals.{add-one}
-use lib.ListN.{length, length-set}
-use Rattle.queue.proofs.Slide.{slid, slid-start, slid-step, slid-end, slid-behind}
+use Prim.Native.Nat.{◌≤◌, ◌<◌, ◌-◌}
+use mathlib.Core.Path.{◌≡◌}
+use lib.ListN.{length}
+use Rattle.queue.proofs.Slide.{slid}
 use Rattle.queue.proofs.ready.remove_at.Given as goal
 
 abbrev pub invariant-loop-i : goal.invariant-loop-i

@@ -1,4 +1,3 @@
-use borrow.Author.Rules.{rules}
 use Rattle.rcfg.proofs.Head.new.Goals as goal
 
 pub returns : goal.returns

@@ -1,7 +1,6 @@
 use borrow.Author.Rules.{rules}
-use Prim.Native.Nat.{◌+◌, ◌-◌, ◌≤◌}
-use mathlib.Core.Path.{◌≡◌, sym, ap, ◌∙◌}
-use lib.ListN.{length, drop}
+use Prim.Native.Nat.{◌-◌}
+use mathlib.Core.Path.{sym, ap, ◌∙◌}
 use Rattle.text.specs.Lines.{cut}
 use Rattle.settings.specs.Settings.{Head, settle, from_rcfg}
 use Rattle.rcfg.specs.Reading.{head_meant, head_read_meant}

@@ -1,12 +1,10 @@
 -- The invariant: the lines from `at` on, counted on from `line`, settle to what the whole text does.
-use borrow.Author.Rules.{rules}
 use Prim.Native.Nat.{◌+◌, ◌-◌, ◌≤◌}
-use mathlib.Core.Path.{◌≡◌, sym, ap, ◌∙◌}
+use mathlib.Core.Path.{◌≡◌}
 use lib.ListN.{length, drop}
 use Rattle.text.specs.Lines.{cut}
-use Rattle.settings.specs.Settings.{Head, settle, from_rcfg}
-use Rattle.rcfg.specs.Reading.{head_meant, head_read_meant}
-use Rattle.rcfg.proofs.Settling.{lines-bad, lines_step, lines_end}
+use Rattle.settings.specs.Settings.{settle, from_rcfg}
+use Rattle.rcfg.specs.Reading.{head_meant}
 use Rattle.rcfg.proofs.reading.from_rcfg.Given as goal
 
 abbrev pub invariant-loop-at : goal.invariant-loop-at

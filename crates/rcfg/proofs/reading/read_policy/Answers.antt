@@ -1,4 +1,3 @@
-use borrow.Author.Rules.{rules}
 use mathlib.Core.Path.{sym, ap, ◌∙◌}
 use Rattle.settings.specs.Reading.{policy_found_meant}
 use Rattle.rcfg.specs.Reading.{head_meant}

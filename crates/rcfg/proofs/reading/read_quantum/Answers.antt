@@ -1,4 +1,3 @@
-use borrow.Author.Rules.{rules}
 use mathlib.Core.Path.{sym, ap, ◌∙◌}
 use Rattle.rcfg.specs.Reading.{ranged_meant, head_meant}
 use Rattle.rcfg.proofs.Settling.{quantum-late, quantum-bad, quantum-good}

@@ -1,4 +1,3 @@
-use borrow.Author.Rules.{rules}
 use mathlib.Core.Path.{sym, ap, ◌∙◌}
 use Rattle.text.specs.Reading.{number_meant}
 use Rattle.rcfg.proofs.Settling.{ranged-unread, ranged-beyond, ranged-good}

@@ -1,4 +1,3 @@
-use borrow.Author.Rules.{rules}
 use Rattle.settings.specs.Settings.{setting}
 use Rattle.rcfg.proofs.reading.set_value.Goals as goal
 

@@ -1,4 +1,3 @@
-use borrow.Author.Rules.{rules}
 use native.Mathlib.Omega.{arith}
 use Rattle.text.specs.Lines.{written, commas}
 use Rattle.settings.specs.Settings.{to_rcfg}

@@ -1,4 +1,3 @@
-use borrow.Author.Rules.{rules}
 use Rattle.record_reads.proofs.read.is_waiter.Goals as goal
 
 pub returns-in-Ready : goal.returns-in-Ready

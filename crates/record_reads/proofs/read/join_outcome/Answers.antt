@@ -1,4 +1,3 @@
-use borrow.Author.Rules.{rules}
 use borrow.Author.Tests.{ne_eqb}
 use Rattle.model.specs.Calls.{outcome}
 use Rattle.record_reads.proofs.Joining.{of-self}

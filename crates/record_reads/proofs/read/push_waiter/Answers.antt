@@ -1,4 +1,3 @@
-use borrow.Author.Rules.{rules}
 use Rattle.model.specs.Reading.{thread_meant}
 use Rattle.record_reads.proofs.Waking.{push-room, push-hit, push-miss}
 use Rattle.record_reads.proofs.read.push_waiter.Goals as goal

@@ -1,4 +1,3 @@
-use borrow.Author.Rules.{rules}
 use native.Mathlib.Omega.{arith}
 use Rattle.record_reads.proofs.totals.ticks_since.Goals as goal
 

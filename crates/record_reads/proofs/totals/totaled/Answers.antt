@@ -1,4 +1,3 @@
-use borrow.Author.Rules.{rules}
 use native.Mathlib.Omega.{arith}
 use Rattle.record_reads.specs.Totals.{add_totals}
 use Rattle.record_reads.proofs.totals.totaled.Goals as goal

@@ -1,11 +1,7 @@
-use borrow.Author.Rules.{rules}
-use native.Mathlib.Omega.{arith}
 use mathlib.Core.Path.{subst}
 use Rattle.model.specs.Reading.{thread_meant}
 use Rattle.records.specs.declared.change.Change.{Change}
 use Rattle.records.specs.Changes.{change_meant, Fits}
-use Rattle.records.proofs.change.changed.Reads as reads
-use Rattle.records.proofs.change.changed.Lts as lts
 use Rattle.records.proofs.change.departed.Reads as departed-reads
 use Rattle.records.proofs.change.dispatched.Reads as dispatched-reads
 use Rattle.records.proofs.change.exited.Reads as exited-reads

@@ -1,4 +1,3 @@
-use borrow.Author.Rules.{rules}
 use Rattle.records.proofs.Steps.{leave-step}
 use Rattle.records.proofs.change.departed.Goals as goal
 

@@ -1,4 +1,3 @@
-use borrow.Author.Rules.{rules}
 use Rattle.records.proofs.Steps.{exit-step}
 use Rattle.records.proofs.change.exited.Goals as goal
 

@@ -1,4 +1,3 @@
-use borrow.Author.Rules.{rules}
 use Rattle.model.specs.Accounting.{or_else}
 use Rattle.records.proofs.change.first_or.Goals as goal
 

@@ -1,4 +1,3 @@
-use borrow.Author.Rules.{rules}
 use Rattle.records.proofs.Steps.{first_step, first-room}
 use Rattle.records.proofs.change.first_thread.Goals as goal
 

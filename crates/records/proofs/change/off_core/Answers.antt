@@ -1,4 +1,3 @@
-use borrow.Author.Rules.{rules}
 use Rattle.model.specs.Accounting.{left}
 use Rattle.records.proofs.change.off_core.Goals as goal
 

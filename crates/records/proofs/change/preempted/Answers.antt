@@ -1,4 +1,3 @@
-use borrow.Author.Rules.{rules}
 use Rattle.model.specs.Reading.{thread_meant}
 use Rattle.records.proofs.Steps.{one-preemptions, preempt-step}
 use Rattle.records.proofs.change.preempted.Goals as goal

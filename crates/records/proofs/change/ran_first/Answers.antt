@@ -1,4 +1,3 @@
-use borrow.Author.Rules.{rules}
 use Rattle.records.proofs.Steps.{start-step}
 use Rattle.records.proofs.change.ran_first.Goals as goal
 

@@ -1,4 +1,3 @@
-use borrow.Author.Rules.{rules}
 use mathlib.Core.Path.{ap, ◌∙◌}
 use Rattle.model.specs.Types.{ThreadState}
 use Rattle.model.specs.Accounting.{set_state}

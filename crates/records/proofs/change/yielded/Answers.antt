@@ -1,4 +1,3 @@
-use borrow.Author.Rules.{rules}
 use Rattle.model.specs.Reading.{thread_meant}
 use Rattle.records.proofs.Steps.{one-yields}
 use Rattle.records.proofs.change.yielded.Goals as goal

@@ -1,4 +1,3 @@
-use borrow.Author.Rules.{rules}
 use Rattle.rings.proofs.EventLaws.{is-forced}
 use Rattle.rings.proofs.events.reason_of.Goals as goal
 

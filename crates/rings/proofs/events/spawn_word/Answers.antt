@@ -1,4 +1,3 @@
-use borrow.Author.Rules.{rules}
 use native.Mathlib.Omega.{arith}
 use Rattle.rings.proofs.EventLaws.{kind-packed}
 use Rattle.rings.proofs.events.spawn_word.Goals as goal

@@ -1,4 +1,3 @@
-use borrow.Author.Rules.{rules}
 use Rattle.rings.proofs.EntryLaws.{entry_read}
 use Rattle.rings.proofs.ring.entry_at.Goals as goal
 

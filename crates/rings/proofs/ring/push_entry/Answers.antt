@@ -1,4 +1,3 @@
-use borrow.Author.Rules.{rules}
 use Rattle.rings.proofs.EntryLaws.{pushed_room, pushed-full}
 use Rattle.rings.proofs.ring.push_entry.Goals as goal
 

@@ -1,4 +1,3 @@
-use borrow.Author.Rules.{rules}
 use Prim.Native.Nat.{◌+◌, ◌*◌}
 use Rattle.model.specs.Types.{Segment}
 use Rattle.model.specs.Reading.{lane_meant}

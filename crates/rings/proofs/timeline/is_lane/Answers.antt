@@ -1,4 +1,3 @@
-use borrow.Author.Rules.{rules}
 use Rattle.rings.proofs.TimelineLaws.{same-idle, same_switch, not_switch, same-run, not-run}
 use Rattle.rings.proofs.timeline.is_lane.Goals as goal
 

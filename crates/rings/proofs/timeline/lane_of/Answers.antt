@@ -1,4 +1,3 @@
-use borrow.Author.Rules.{rules}
 use Rattle.rings.proofs.TimelineLaws.{is-run}
 use Rattle.rings.proofs.timeline.lane_of.Goals as goal
 

@@ -1,11 +1,7 @@
-use borrow.Author.Rules.{rules}
 use native.Mathlib.Omega.{arith}
-use mathlib.Core.Path.{◌∙◌, sym}
 use Rattle.checks.proofs.Refusals.{retired-refusal}
 use Rattle.checks.proofs.Answers.{taken_none, taken-ok, refused-done}
 use Rattle.sched_marks.proofs.MarkCalls.{retired-place, retired-taken}
-use Rattle.sched_marks.proofs.marks.retired.Reads as reads
-use Rattle.sched_marks.proofs.marks.retired.Lts as lts
 use Rattle.checks.proofs.check_retired.Reads as check-retired-reads
 use Rattle.sched_marks.proofs.marks.retired.Goals as goal
 

@@ -1,11 +1,7 @@
-use borrow.Author.Rules.{rules}
-use native.Mathlib.Omega.{arith}
-use mathlib.Core.Path.{◌∙◌, sym, refl}
+use mathlib.Core.Path.{refl}
 use Rattle.checks.proofs.Refusals.{timing-refusal}
 use Rattle.checks.proofs.Answers.{taken_none, taken-ok, refused-done}
 use Rattle.sched_marks.proofs.MarkCalls.{timing-taken}
-use Rattle.sched_marks.proofs.marks.set_timing.Reads as reads
-use Rattle.sched_marks.proofs.marks.set_timing.Lts as lts
 use Rattle.sched_marks.proofs.marks.at_least_one.Reads as at-least-one-reads
 use Rattle.checks.proofs.check_timing.Reads as check-timing-reads
 use Rattle.sched_marks.proofs.marks.set_timing.Goals as goal

@@ -1,4 +1,3 @@
-use borrow.Author.Rules.{rules}
 use Rattle.settings.proofs.Refusal.number.Goals as goal
 
 pub returns-in-SettingRange : goal.returns-in-SettingRange

@@ -1,4 +1,3 @@
-use borrow.Author.Rules.{rules}
 use Rattle.settings.proofs.SchedPolicy.as_str.Goals as goal
 
 pub returns-in-Off : goal.returns-in-Off

@@ -1,4 +1,3 @@
-use borrow.Author.Rules.{rules}
 use mathlib.Core.Path.{ap, ◌∙◌}
 use Rattle.settings.specs.Settings.{policy_of}
 use Rattle.settings.proofs.SchedPolicy.from_str.Goals as goal

@@ -1,4 +1,3 @@
-use borrow.Author.Rules.{rules}
 use mathlib.Core.Path.{refl}
 use Rattle.settings.proofs.SchedPolicy.label.Goals as goal
 

@@ -1,11 +1,11 @@
 use borrow.Author.Rules.{rules}
 use native.Mathlib.Omega.{arith}
-use Prim.Native.Nat.{◌≤◌, ◌-◌}
-use mathlib.Core.Path.{◌≡◌, sym, ◌∙◌}
+use Prim.Native.Nat.{◌-◌}
+use mathlib.Core.Path.{sym, ◌∙◌}
 use mathlib.Core.List.{map, []}
 use borrow.Author.Tests.{eq-eqb, ne_eqb}
-use lib.ListN.{length, get_or, drop, length-map, get_or-map}
-use Rattle.text.specs.Bytes.{lower_of, same}
+use lib.ListN.{get_or, length-map, get_or-map}
+use Rattle.text.specs.Bytes.{lower_of}
 use Rattle.settings.specs.Settings.{words}
 use Rattle.text.proofs.Compare.{same-pass, same_stop, same_end, same-short}
 use Rattle.settings.proofs.policy.is_word.Goals as goal

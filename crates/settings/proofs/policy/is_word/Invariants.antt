@@ -1,14 +1,10 @@
 -- The invariant: the letters from i on compare as the whole words do.
-use borrow.Author.Rules.{rules}
-use native.Mathlib.Omega.{arith}
 use Prim.Native.Nat.{◌≤◌, ◌-◌}
-use mathlib.Core.Path.{◌≡◌, sym, ◌∙◌}
+use mathlib.Core.Path.{◌≡◌}
 use mathlib.Core.List.{map, []}
-use borrow.Author.Tests.{eq-eqb, ne_eqb}
-use lib.ListN.{length, get_or, drop, length-map, get_or-map}
+use lib.ListN.{length, get_or, drop}
 use Rattle.text.specs.Bytes.{lower_of, same}
 use Rattle.settings.specs.Settings.{words}
-use Rattle.text.proofs.Compare.{same-pass, same_stop, same_end, same-short}
 use Rattle.settings.proofs.policy.is_word.Given as goal
 
 abbrev pub invariant-loop-i : goal.invariant-loop-i

@@ -1,4 +1,3 @@
-use borrow.Author.Rules.{rules}
 use native.Mathlib.Omega.{arith}
 use Prim.Native.Nat.{ℕ}
 use mathlib.Core.Path.{◌≡◌, sym, ap, ◌∙◌}
@@ -6,7 +5,7 @@ use mathlib.Core.List.{List, []}
 use lib.ListN.{length, get_or, take, get_or-map}
 use lib.Seq.{get_or-take}
 use Rattle.settings.specs.Settings.{words}
-use Rattle.settings.proofs.Words.{lengths, rows, shorten-at, fit_at}
+use Rattle.settings.proofs.Words.{lengths, rows, shorten-at}
 use Rattle.settings.proofs.policy.letter.Goals as goal
 
 pub returns : goal.returns

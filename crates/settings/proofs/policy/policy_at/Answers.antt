@@ -1,4 +1,3 @@
-use borrow.Author.Rules.{rules}
 use lib.ListN.{get_or-map}
 use Rattle.settings.specs.declared.SchedPolicy.TheVariants as P
 use mathlib.Core.Path.{sym}

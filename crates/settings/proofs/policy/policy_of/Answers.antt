@@ -1,12 +1,11 @@
 use borrow.Author.Rules.{rules}
 use native.Mathlib.Omega.{arith}
-use Prim.Native.Nat.{◌≤◌, ◌-◌}
+use Prim.Native.Nat.{◌-◌}
 use mathlib.Core.Path.{◌≡◌, sym, ◌∙◌, ap}
 use mathlib.Core.Option.{some}
 use mathlib.Core.List.{map}
-use lib.ListN.{drop}
 use Rattle.settings.specs.Policy.{Off}
-use Rattle.text.specs.Bytes.{lower_of, lookup}
+use Rattle.text.specs.Bytes.{lower_of}
 use Rattle.settings.specs.Settings.{policy_words, policy_of}
 use Rattle.settings.proofs.Words.{lookup-here, lookup-pass}
 use Rattle.settings.proofs.policy.policy_of.Goals as goal

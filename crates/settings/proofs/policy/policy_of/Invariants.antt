@@ -1,15 +1,10 @@
 -- The invariant: the table from its k-th entry on says of the word what the whole table does.
-use borrow.Author.Rules.{rules}
-use native.Mathlib.Omega.{arith}
 use Prim.Native.Nat.{◌≤◌, ◌-◌}
-use mathlib.Core.Path.{◌≡◌, sym, ◌∙◌, ap}
-use mathlib.Core.Option.{some}
+use mathlib.Core.Path.{◌≡◌}
 use mathlib.Core.List.{map}
 use lib.ListN.{drop}
-use Rattle.settings.specs.Policy.{Off}
 use Rattle.text.specs.Bytes.{lower_of, lookup}
-use Rattle.settings.specs.Settings.{policy_words, policy_of}
-use Rattle.settings.proofs.Words.{lookup-here, lookup-pass}
+use Rattle.settings.specs.Settings.{policy_words}
 use Rattle.settings.proofs.policy.policy_of.Given as goal
 
 abbrev pub invariant-loop-k : goal.invariant-loop-k

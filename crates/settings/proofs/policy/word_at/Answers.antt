@@ -1,4 +1,3 @@
-use borrow.Author.Rules.{rules}
 use mathlib.Core.Path.{◌≡◌, sym}
 use mathlib.Core.List.{[]}
 use lib.ListN.{length, get_or, get_or-map}

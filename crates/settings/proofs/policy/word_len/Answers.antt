@@ -1,4 +1,3 @@
-use borrow.Author.Rules.{rules}
 use mathlib.Core.List.{[]}
 use lib.ListN.{length, get_or-map}
 use Rattle.settings.specs.Settings.{words}

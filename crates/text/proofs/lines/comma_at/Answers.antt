@@ -1,4 +1,3 @@
-use borrow.Author.Rules.{rules}
 use native.Mathlib.Omega.{arith}
 use Rattle.text.proofs.Found.{search-place, comma-found}
 use Rattle.text.proofs.lines.comma_at.Goals as goal

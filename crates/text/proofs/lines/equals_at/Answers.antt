@@ -1,4 +1,3 @@
-use borrow.Author.Rules.{rules}
 use Rattle.text.proofs.Found.{search-place, key-found, value_found}
 use Rattle.text.proofs.lines.equals_at.Goals as goal
 

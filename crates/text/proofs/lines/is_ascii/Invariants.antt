@@ -1,12 +1,9 @@
 -- The invariant: the test of the bytes from i on is that of all.
-use borrow.Author.Rules.{rules}
-use native.Mathlib.Omega.{arith}
 use Prim.Native.Nat.{◌≤◌, ◌-◌}
-use mathlib.Core.Path.{◌≡◌, sym, ap, ◌∙◌}
-use borrow.Author.Tests.{le-leb, lt-leb}
-use lib.ListN.{length, drop, drop_of_length-le}
+use mathlib.Core.Path.{◌≡◌}
+use lib.ListN.{length, drop}
 use Rattle.text.specs.Bytes.{all}
-use Rattle.text.proofs.Trimming.{is_ascii, all_pass, all-stop}
+use Rattle.text.proofs.Trimming.{is_ascii}
 use Rattle.text.proofs.lines.is_ascii.Given as goal
 
 abbrev pub invariant-loop-i : goal.invariant-loop-i

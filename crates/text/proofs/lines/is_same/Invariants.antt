@@ -1,12 +1,8 @@
 -- The invariant: the texts from i on compare as the whole texts do.
-use borrow.Author.Rules.{rules}
-use native.Mathlib.Omega.{arith}
 use Prim.Native.Nat.{◌≤◌, ◌-◌}
-use mathlib.Core.Path.{◌≡◌, sym, ◌∙◌}
-use borrow.Author.Tests.{eq-eqb, ne_eqb}
+use mathlib.Core.Path.{◌≡◌}
 use lib.ListN.{length, drop}
 use Rattle.text.specs.Bytes.{same}
-use Rattle.text.proofs.Compare.{same-pass, same_stop, same_end, same-short}
 use Rattle.text.proofs.lines.is_same.Given as goal
 
 abbrev pub invariant-loop-i : goal.invariant-loop-i

@@ -1,4 +1,3 @@
-use borrow.Author.Rules.{rules}
 use native.Mathlib.Omega.{arith}
 use Rattle.text.proofs.Found.{search-place, piece-ended, piece-open}
 use Rattle.text.proofs.lines.piece_end.Goals as goal

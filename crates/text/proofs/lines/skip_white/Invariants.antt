@@ -1,13 +1,8 @@
 -- The invariant: from i on, trimmed at the start, stands what the whole trims to.
-use borrow.Author.Rules.{rules}
-use native.Mathlib.Omega.{arith}
-use borrow.Author.Tests.{not-true, not-false}
 use Prim.Native.Nat.{◌≤◌, ◌-◌}
-use mathlib.Core.Path.{◌≡◌, sym, ◌∙◌, ap}
-use lib.ListN.{length, drop, drop_of_length-le}
-use mathlib.Core.List.{[]}
+use mathlib.Core.Path.{◌≡◌}
+use lib.ListN.{length, drop}
 use Rattle.text.specs.Lines.{trim_start}
-use Rattle.text.proofs.Trimming.{start-pass, start-stop}
 use Rattle.text.proofs.lines.skip_white.Given as goal
 
 abbrev pub invariant-loop-i : goal.invariant-loop-i

@@ -1,4 +1,3 @@
-use borrow.Author.Rules.{rules}
 use mathlib.Core.Path.{◌∙◌, ap}
 use Rattle.text.specs.Lines.{trim_end}
 use Rattle.text.proofs.lines.trimmed.Goals as goal

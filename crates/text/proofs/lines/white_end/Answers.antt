@@ -1,10 +1,8 @@
 use borrow.Author.Rules.{rules}
 use native.Mathlib.Omega.{arith}
 use borrow.Author.Tests.{not-true, not-false}
-use Prim.Native.Nat.{◌≤◌, ◌-◌}
+use Prim.Native.Nat.{◌-◌}
 use mathlib.Core.Path.{◌≡◌, sym, ◌∙◌}
-use lib.ListN.{length, take, drop}
-use Rattle.text.specs.Lines.{trim_end}
 use Rattle.text.proofs.Trimming.{end-pass, end-stop, end_whole}
 use Rattle.text.proofs.lines.white_end.Goals as goal
 

@@ -1,12 +1,8 @@
 -- The invariant: up to e, trimmed at the end, stands what the whole trims to.
-use borrow.Author.Rules.{rules}
-use native.Mathlib.Omega.{arith}
-use borrow.Author.Tests.{not-true, not-false}
 use Prim.Native.Nat.{◌≤◌, ◌-◌}
-use mathlib.Core.Path.{◌≡◌, sym, ◌∙◌}
+use mathlib.Core.Path.{◌≡◌}
 use lib.ListN.{length, take, drop}
 use Rattle.text.specs.Lines.{trim_end}
-use Rattle.text.proofs.Trimming.{end-pass, end-stop, end_whole}
 use Rattle.text.proofs.lines.white_end.Given as goal
 
 abbrev pub invariant-loop-e : goal.invariant-loop-e

@@ -1,13 +1,8 @@
 -- The invariant: the digits from i on, behind others that spell a, spell what all do, as far as the limit tells.
-use Prim.Native.Nat.{ℕ, ◌≤◌, ◌<◌, ◌-◌, ◌+◌, ◌*◌}
-use mathlib.Core.Path.{◌≡◌, sym, ap, ◌∙◌}
-use mathlib.Core.List.{List, []}
-use borrow.Author.Rules.{rules}
-use native.Mathlib.Omega.{arith}
-use lib.ListN.{length, get_or, drop, drop_of_length-le}
+use Prim.Native.Nat.{◌≤◌, ◌-◌}
+use mathlib.Core.Path.{◌≡◌}
+use lib.ListN.{length, drop}
 use Rattle.text.specs.Bytes.{at_most, value_from}
-use Rattle.text.proofs.Decimal.{digit-below, digit-above, digit-within, over-stays, value-end}
-use Rattle.text.proofs.Places.{digit-pass, digit-stop}
 use Rattle.text.proofs.numbers.digits_from.Given as goal
 
 abbrev pub invariant-loop-i : goal.invariant-loop-i

@@ -1,5 +1,4 @@
 use mathlib.Core.Path.{sym, ◌∙◌}
-use borrow.Author.Rules.{rules}
 use native.Mathlib.Omega.{arith}
 use Rattle.text.proofs.Places.{number-empty, number-plain, number-plus, number-lone}
 use Rattle.text.proofs.numbers.read_number.Goals as goal

@@ -1,6 +1,5 @@
-use Rattle.std.proofs.Common.{ℕ, suc, ◌≡◌, refl, ◌+◌, ◌<◌, ◌≤◌, sym, ap, ◌∙◌, List, [], ◌∷◌, length, get_or, take, drop, arith}
+use Rattle.std.proofs.Common.{ℕ, suc, ◌≡◌, ◌+◌, ◌<◌, ◌≤◌, ap, ◌∙◌, List, ◌∷◌, length, get_or, take, drop, arith}
 use borrow.Author.Tests.{eq-eqb, ne_eqb}
-use native.Mathlib.Numerals.{add-one}
 use Rattle.std.proofs.lemmas.List.{drop_more, get_or-take, length-take-le}
 use lib.ListN.{drop_of_length-le}
 use Rattle.text.specs.Scan.{index_of, index_after, slice}

@@ -37,6 +37,6 @@ returns-in-3 c =
     let a = c.number-first.ensures ∙ or-zero c.args.f 1 in
     let b = c.number-second.ensures ∙ or-zero c.args.f 2 in
     elim c.in-3-1.branch [
-      in-3-1 w ↦ with-three c.args.code c.args.f _ _ _ c.pair_call.ensures a b (omega arith)
-    | in_default+else-code-lt6+then-code-lt8 w ↦ with_pair c.args.code c.args.f _ _ _ c.pair_call.ensures a b (omega arith) (omega arith)
+      | in-3-1 w ↦ with-three c.args.code c.args.f _ _ _ c.pair_call.ensures a b (omega arith)
+      | in_default+else-code-lt6+then-code-lt8 w ↦ with_pair c.args.code c.args.f _ _ _ c.pair_call.ensures a b (omega arith) (omega arith)
     ]

@@ -1,4 +1,3 @@
-use borrow.Author.Rules.{rules}
 use Rattle.trace_text.proofs.Streaming.{◌then◌}
 use Rattle.trace_state.specs.Asked.{left_text}
 use Rattle.trace_state.proofs.cores.put_left.Goals as goal

@@ -1,13 +1,10 @@
 use borrow.Author.Rules.{rules}
-use Prim.Native.Nat.{suc, ◌≤◌, ◌-◌}
+use Prim.Native.Nat.{suc, ◌-◌}
 use mathlib.Core.Path.{◌≡◌, ap}
 use native.Mathlib.Omega.{arith}
-use lib.ListN.{length}
 use Rattle.model.specs.Questions.{next_tid}
 use Rattle.state.specs.State.{meant}
-use Rattle.state.specs.Asked.{Answers, nothing}
 use Rattle.trace_text.specs.Texts.{spaced_maybe, texts_below}
-use Rattle.trace_text.specs.Streams.{Streamed}
 use Rattle.trace_text.proofs.Streaming.{streamed-none, streamed-next, streamed-same}
 use Rattle.trace_state.specs.Asked.{place_text, places_text}
 use Rattle.trace_state.proofs.Asking.{threads-long, few-threads}

@@ -1,15 +1,10 @@
-use borrow.Author.Rules.{rules}
-use Prim.Native.Nat.{suc, ◌≤◌, ◌-◌}
-use mathlib.Core.Path.{◌≡◌, ap}
-use native.Mathlib.Omega.{arith}
+use Prim.Native.Nat.{◌≤◌, ◌-◌}
+use mathlib.Core.Path.{◌≡◌}
 use lib.ListN.{length}
-use Rattle.state.specs.State.{meant}
 use Rattle.state.specs.Asked.{Answers, nothing}
-use Rattle.trace_text.specs.Texts.{spaced_maybe, texts_below}
+use Rattle.trace_text.specs.Texts.{texts_below}
 use Rattle.trace_text.specs.Streams.{Streamed}
-use Rattle.trace_text.proofs.Streaming.{◌then◌, streamed-none, streamed-next, streamed-same}
-use Rattle.trace_state.specs.Asked.{core_text, running_text}
-use Rattle.trace_state.proofs.Asking.{cores-long}
+use Rattle.trace_state.specs.Asked.{core_text}
 use Rattle.trace_state.proofs.cores.put_running.Given as goal
 
 abbrev pub invariant-loop-i : goal.invariant-loop-i

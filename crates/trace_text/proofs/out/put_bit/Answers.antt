@@ -1,4 +1,3 @@
-use borrow.Author.Rules.{rules}
 use Rattle.trace_text.specs.Texts.{bit_text}
 use Rattle.trace_text.proofs.out.put_bit.Goals as goal
 

@@ -1,4 +1,3 @@
-use borrow.Author.Rules.{rules}
 use Rattle.script.specs.Report.{maybe}
 use Rattle.trace_text.specs.Texts.{spaced, spaced_maybe}
 use Rattle.trace_text.proofs.out.put_core.Goals as goal

@@ -1,4 +1,3 @@
-use borrow.Author.Rules.{rules}
 use native.Mathlib.Omega.{arith}
 use Rattle.trace_text.proofs.Streaming.{placed-put, placed-long}
 use Rattle.trace_text.proofs.out.put_first.Goals as goal

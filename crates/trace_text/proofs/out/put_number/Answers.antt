@@ -1,4 +1,3 @@
-use borrow.Author.Rules.{rules}
 use mathlib.Core.Path.{◌∙◌}
 use Rattle.text.proofs.Printed.{printed-decimal}
 use Rattle.trace_text.proofs.Streaming.{streamed-same}

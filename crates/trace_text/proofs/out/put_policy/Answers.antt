@@ -1,4 +1,3 @@
-use borrow.Author.Rules.{rules}
 use Rattle.trace_text.specs.Texts.{spaced_policy}
 use Rattle.trace_text.proofs.out.put_policy.Goals as goal
 

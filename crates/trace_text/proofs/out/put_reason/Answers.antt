@@ -1,4 +1,3 @@
-use borrow.Author.Rules.{rules}
 use Rattle.trace_text.proofs.out.put_reason.Goals as goal
 
 pub returns-in-Exit : goal.returns-in-Exit

@@ -1,4 +1,3 @@
-use borrow.Author.Rules.{rules}
 use Rattle.trace_text.specs.Texts.{spaced}
 use Rattle.trace_text.proofs.Streaming.{◌then◌}
 use Rattle.trace_text.proofs.out.put_spaced.Goals as goal

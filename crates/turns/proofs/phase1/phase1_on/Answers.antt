@@ -1,5 +1,4 @@
 -- `turns::phase1::phase1_on` meets its contract. Assumes nothing.
-use borrow.Author.Rules.{rules}
 use native.Mathlib.Omega.{arith}
 use native.Mathlib.Numerals.{add-one}
 use Rattle.model.specs.Phases.{sliced}

@@ -1,5 +1,4 @@
 -- `turns::phase2::phase2_on` meets its contract. Assumes nothing.
-use borrow.Author.Rules.{rules}
 use mathlib.Core.Path.{ap}
 use Rattle.model.specs.Phases.{phase2, switched_in, unmoved}
 use Rattle.std.proofs.Common.{ℕ, Bool, List, ◌≡◌}

@@ -1,5 +1,4 @@
 -- `turns::phase3::phase3_on` meets its contract. Assumes nothing.
-use borrow.Author.Rules.{rules}
 use mathlib.Core.Path.{refl, ap}
 use mathlib.Core.Bool.{false}
 use lib.ListN.{get_or, take}

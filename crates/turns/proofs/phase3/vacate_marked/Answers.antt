@@ -1,5 +1,4 @@
 -- `turns::phase3::vacate_marked` meets its contract. Assumes nothing.
-use borrow.Author.Rules.{rules}
 use mathlib.Core.Path.{refl}
 use lib.ListN.{take}
 use Rattle.model.specs.Types.{Exit, Block}

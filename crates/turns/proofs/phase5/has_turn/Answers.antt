@@ -1,5 +1,4 @@
 -- `turns::phase5::has_turn` meets its contract. Assumes nothing.
-use borrow.Author.Rules.{rules}
 use Rattle.turns.proofs.phase5.has_turn.Goals as goal
 
 pub returns-in-Running : goal.returns-in-Running
