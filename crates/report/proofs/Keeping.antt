@@ -1,13 +1,13 @@
 -- What the program keeps from line to line: report and text are the definition's for the lines taken.
 use Prim.Native.Nat.{ℕ, suc, ◌+◌, ◌-◌, ◌≤◌, ◌<◌}
-use mathlib.Core.Path.{◌≡◌, refl, sym, ap, ap₂, subst, ◌∙◌}
+use mathlib.Core.Path.{◌≡◌, refl, sym, ap, ap₂, ◌∙◌}
 use mathlib.Core.Bool.{Bool, true, false, cond, ◌&&◌}
 use mathlib.Core.List.{List, [], ◌∷◌, ◌++◌, append_assoc, append-nil}
 use native.Mathlib.Omega.{arith}
 use borrow.Author.Tests.{leb-false}
 use lib.Dec.{leb}
 use lib.ListN.{length, take, drop, length-append}
-use lib.Seq.{paste, take-length, take-paste, drop-paste, drop-drop}
+use lib.Seq.{take-length, take-paste, drop-paste, drop-drop}
 use Rattle.model.specs.declared.ThreadInfo.{ThreadInfo}
 use Rattle.text.specs.Lines.{cut}
 use Rattle.text.specs.Buffers.{Put}

@@ -1,6 +1,6 @@
 -- Lines `retired=` that were taken together with a line: what the definition makes of them, one after the other.
 -- Assumes nothing.
-use Prim.Native.Nat.{ℕ, zero, suc, ◌+◌, ◌≤◌, ◌<◌}
+use Prim.Native.Nat.{ℕ, suc, ◌+◌, ◌≤◌, ◌<◌}
 use mathlib.Core.Path.{◌≡◌, refl, sym, ap, ap₂, subst, ◌∙◌}
 use mathlib.Core.Bool.{Bool, true, false}
 use mathlib.Core.Option.{none}
@@ -12,7 +12,7 @@ use Rattle.text.specs.Lines.{cut}
 use Rattle.script.specs.Invariants.{Kept}
 use Rattle.model.specs.declared.ThreadInfo.{ThreadInfo}
 use Rattle.model.specs.Types.{State}
-use Rattle.model.specs.Calls.{Answer, ok, check, retired, step}
+use Rattle.model.specs.Calls.{Answer, ok, check, retired}
 use Rattle.rcfg.specs.declared.Head.{Head}
 use Rattle.state.specs.declared.Sched.{Sched}
 use Rattle.state.specs.Memory.{memory}

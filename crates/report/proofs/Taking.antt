@@ -1,5 +1,5 @@
 -- A turn of the report program, without its memory: the next line may be taken, what it prints fits, and what is known before the next turn.
-use mathlib.Core.Path.{◌≡◌, refl, sym, ap, subst, ◌∙◌}
+use mathlib.Core.Path.{◌≡◌, refl, sym, subst}
 use Prim.Native.Nat.{ℕ, ◌+◌, ◌<◌, ◌≤◌}
 use native.Mathlib.Omega.{arith}
 use mathlib.Core.List.{List, [], append-nil}
@@ -18,8 +18,9 @@ use Rattle.feed_plan.specs.declared.Fed.{Fed}
 use Rattle.feed_plan.specs.Meant as Meant
 use Rattle.feed_plan.specs.Meant.{report_meant, ReportValid}
 use Rattle.feed_plan.specs.Steps.{fed_of, next_text}
-use Rattle.feed_plan.specs.Feeding.{Starts, LineRead, LineAsked, LineDone, Sayable, SaidAs}
+use Rattle.feed_plan.specs.Feeding.{Starts, LineRead, LineAsked, LineDone, Sayable}
 use Rattle.feed_plan.proofs.Feeding.{lines-few, line-asked, sayable, feed-done}
+use Rattle.feed.proofs.Results.{roomy-kept}
 use Rattle.report_io.specs.declared.Upcoming.{Upcoming}
 use Rattle.report_io.specs.Marks.{marked_report}
 use Rattle.report_io.specs.Blocks.{Roomy, last_turn, first_of, Standing, Awaits, Printable, Passed}
@@ -62,9 +63,7 @@ module _ (r : Report) (u : Upcoming) (i : ℕ) (c : Line) (m : Lists) (bs : List
     fits_in = sayable r piece m.ts m.qs m.ps m.ls m.ws runs.valid c z.ts z.qs z.ps z.ls z.ws x says-it claim (replicate 288 0) (subst (λ (k : ℕ). 288 ≤ k) (sym (length-replicate {A = ℕ} 288 0)) (omega arith))
 
     memory : Meant.Roomy z.ts z.qs z.ps z.ls z.ws
-    memory =
-        let h = runs.valid.memory in
-        record { threads = subst (λ (k : ℕ). 256 ≤ k) (sym long.threads) h.threads; queue = subst (λ (k : ℕ). 256 ≤ k) (sym long.queue) h.queue; prios = subst (λ (k : ℕ). 256 ≤ k) (sym long.prios) h.prios; log = subst (λ (k : ℕ). 1_024 ≤ k) (sym long.log) h.log; lanes = subst (λ (k : ℕ). 4_176 ≤ k) (sym long.lanes) h.lanes }
+    memory = roomy-kept m z long runs.valid.memory
 
     abbrev said : Fed
     said = record { report = x.report; written = 0 + length (next_text x) }
@@ -85,28 +84,17 @@ module _ (r : Report) (u : Upcoming) (i : ℕ) (c : Line) (m : Lists) (bs : List
     )
 
     -- and what is known before the next turn
-    pub goes-on' : (v : Upcoming) (bs' : List ℕ) (r' : Report) (t : ℕ) → Passed u x bs bs' v → length bs' ≡ length bs → r' ≡ marked_report x.report v.marked → t ≡ v.place.turn → RunsIn r' v t z bs' × (i < t) × (t ≤ limit)
-    goes-on' v bs' r' t claim' long' e' turn = (
-      record {
-        valid = subst (λ (y : Report). ValidIn y z) (sym e') (marked-valid r u m bs runs.so_far turn-less runs.awaits.ahead standing.some c says-it x z claim valid-next v bs' claim');
-        awaits = subst (λ (y : Report). Awaits y bs' v) (sym e') claim'.awaits;
-        turns = turn;
-        room = subst (λ (k : ℕ). 131_072 ≤ k) (sym long') runs.room;
-        so_far = subst (λ (y : Report). SoFar y v z.ts bs' z.qs z.ls z.ws) (sym e') (kept r u m bs runs.so_far turn-less runs.awaits.ahead standing.some c says-it x z claim valid-next v bs' claim');
-      },
-      later-turn,
-      subst (λ (k : ℕ). k ≤ limit) (sym turn) claim'.awaits.roomy.within.turns,
-    )
+    pub goes_on : (v : Upcoming) (bs' : List ℕ) (r' : Report) (t : ℕ) → Passed u x bs bs' v → length bs' ≡ length bs → r' ≡ marked_report x.report v.marked → t ≡ v.place.turn → RunsIn r' v t z bs'
+    goes_on v bs' r' t p long' e' turn = record {
+      valid = subst (λ (y : Report). ValidIn y z) (sym e') (marked-valid r u m bs runs.so_far turn-less runs.awaits.ahead standing.some c says-it x z claim valid-next v bs' p);
+      awaits = subst (λ (y : Report). Awaits y bs' v) (sym e') p.awaits;
+      turns = turn;
+      room = subst (λ (k : ℕ). 131_072 ≤ k) (sym long') runs.room;
+      so_far = subst (λ (y : Report). SoFar y v z.ts bs' z.qs z.ls z.ws) (sym e') (kept r u m bs runs.so_far turn-less runs.awaits.ahead standing.some c says-it x z claim valid-next v bs' p);
+    }
       where
         turn-less : u.place.turn < limit
         turn-less = subst (λ (t : ℕ). t < limit) runs.turns less
-
-        later-turn : i < t
-        later-turn = subst (λ (k : ℕ). i < k) (sym turn) (subst (λ (k : ℕ). k < v.place.turn) (sym runs.turns) claim'.on)
-
-pub goes_on : (r : Report) (u : Upcoming) (i : ℕ) (c : Line) (m : Lists) (bs : List ℕ) (x : Next) (z : Lists) (v : Upcoming) (bs' : List ℕ) (r' : Report) (t : ℕ) → i < limit → RunsIn r u i m bs → c ≡ u.line → DoneIn r c m z x → Long m z
-    → Passed u x bs bs' v → length bs' ≡ length bs → r' ≡ marked_report x.report v.marked → t ≡ v.place.turn → RunsIn r' v t z bs' × (i < t) × (t ≤ limit)
-goes_on r u i c m bs x z v bs' r' t less runs e claim long claim' long' e' turn = goes-on' r u i c m bs less runs e x z claim long v bs' r' t claim' long' e' turn
 
 -- what stands at the end is short
 pub count_fits : (r : Report) (m : Lists) (bs : List ℕ) (n : ℕ) (bs' : List ℕ) → ValidIn r m → Put bs 0 (Definition.finish (report_meant r m.ts m.qs m.ls m.ws)) bs' n → n ≤ 400
