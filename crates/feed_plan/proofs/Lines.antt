@@ -28,14 +28,13 @@ use Rattle.feed_plan.specs.Steps.{fed_by, fed_of, Fits, Counts, HeadSays, CallSa
 
 ---- the lines that are read
 
-module _ (n : ℕ) (l : List ℕ) where
-  pub line-beyond : 1_000_000_000_000 ≤ n → line_at (suc n) l ≡ none
-  unfolding line_at limit_lines
-  line-beyond h = rw (lt-leb (suc n) 1_000_000_000_000 (omega arith))
+pub line_beyond : (n : ℕ) (l : List ℕ) → 1_000_000_000_000 ≤ n → line_at (suc n) l ≡ line_if false l
+unfolding line_at limit_lines line_if
+line_beyond n l h = rw (lt-leb (suc n) 1_000_000_000_000 (omega arith))
 
-  pub line-within : n < 1_000_000_000_000 → line_at (suc n) l ≡ line_of l
-  unfolding line_at limit_lines
-  line-within h = rw (le-leb (suc n) 1_000_000_000_000 (omega arith))
+pub line_within : (n : ℕ) (l : List ℕ) → n < 1_000_000_000_000 → line_at (suc n) l ≡ line_of l
+unfolding line_at limit_lines
+line_within n l h = rw (le-leb (suc n) 1_000_000_000_000 (omega arith))
 
 pub line-there : (n : ℕ) (l : List ℕ) (r : Bool) → line_at n l ≡ line_if r l → r ≡ true → 0 < length l
 unfolding line_at line_if

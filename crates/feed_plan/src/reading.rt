@@ -40,6 +40,7 @@ fn call_of(command: Command) -> Call
 }
 
 // Whether a piece is a line. "A script has at most 1,000,000,000,000 lines; the next one is 6."
+#[tactic(auto, using(crate::proofs::Lines::line_beyond, crate::proofs::Lines::line_within))]
 fn is_readable(lines: u64, piece: &[u8]) -> bool
     ensures { line_at (suc lines) piece.now ≡ line_if result piece.now }
 {
