@@ -12,7 +12,6 @@ use Rattle.state.specs.declared.Sched.{Sched}
 use Rattle.state.specs.State.{meant_at}
 use Rattle.summary.proofs.Totaling.{totals-room}
 use Rattle.script.specs.Report as Definition
-use Rattle.sched.proofs.Memory.{Lists, Long}
 use Rattle.feed_plan.specs.declared.Stage.{Stage}
 use Rattle.feed_plan.specs.declared.Stage.TheVariants as StageCases
 use Rattle.feed_plan.specs.declared.Report.{Report}
@@ -26,8 +25,16 @@ use Rattle.feed_plan.proofs.Feeding.{sayable, feed-done}
 
 ---- a line
 
-pub roomy-kept : (m z : Lists) → Long m z → Roomy m.ts m.qs m.ps m.ls m.ws → Roomy z.ts z.qs z.ps z.ls z.ws
-roomy-kept m z l k = record { threads = rw l.threads k.threads; queue = rw l.queue k.queue; prios = rw l.prios k.prios; log = rw l.log k.log; lanes = rw l.lanes k.lanes }
+-- the slices keep their lengths
+pub record Long (ts ts' : List ThreadInfo) (qs qs' ps ps' ls ls' ws ws' : List ℕ) : Type 0 where
+  pub threads : length ts' ≡ length ts
+  pub queue : length qs' ≡ length qs
+  pub prios : length ps' ≡ length ps
+  pub log : length ls' ≡ length ls
+  pub lanes : length ws' ≡ length ws
+
+pub roomy-kept : (ts ts' : List ThreadInfo) (qs qs' ps ps' ls ls' ws ws' : List ℕ) → Long ts ts' qs qs' ps ps' ls ls' ws ws' → Roomy ts qs ps ls ws → Roomy ts' qs' ps' ls' ws'
+roomy-kept ts ts' qs qs' ps ps' ls ls' ws ws' l k = record { threads = rw l.threads k.threads; queue = rw l.queue k.queue; prios = rw l.prios k.prios; log = rw l.log k.log; lanes = rw l.lanes k.lanes }
 
 module _ (r : Report) (line : List ℕ) (ts : List ThreadInfo) (qs ps ls ws : List ℕ) (v : ReportValid r ts qs ps ls ws) where
   module _ (x : Line) (k : LineRead r line x) where
@@ -39,8 +46,8 @@ module _ (r : Report) (line : List ℕ) (ts : List ThreadInfo) (qs ps ls ws : Li
       pub says-it : Sayable y b
       says-it = sayable r line ts qs ps ls ws v x ts' qs' ps' ls' ws' y read-says c b room
 
-      pub fed : Long (record { ts = ts; qs = qs; ps = ps; ls = ls; ws = ws }) (record { ts = ts'; qs = qs'; ps = ps'; ls = ls'; ws = ws' }) → (b' : List ℕ) (z : Fed) → SaidAs y b b' z → FeedDone r line b b' ts ts' qs qs' ps ps' ls ls' ws ws' z
-      fed l b' z s = feed-done r line ts qs ps ls ws v x ts' qs' ps' ls' ws' y read-says c b b' z (roomy-kept _ _ l v.memory) s
+      pub fed : Long ts ts' qs qs' ps ps' ls ls' ws ws' → (b' : List ℕ) (z : Fed) → SaidAs y b b' z → FeedDone r line b b' ts ts' qs qs' ps ps' ls ls' ws ws' z
+      fed l b' z s = feed-done r line ts qs ps ls ws v x ts' qs' ps' ls' ws' y read-says c b b' z (roomy-kept ts ts' qs qs' ps ps' ls ls' ws ws' l v.memory) s
 
 ---- the end of a script
 
