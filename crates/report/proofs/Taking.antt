@@ -63,7 +63,7 @@ module _ (r : Report) (u : Upcoming) (i : ℕ) (c : Line) (m : Lists) (bs : List
     fits_in = sayable r piece m.ts m.qs m.ps m.ls m.ws runs.valid c z.ts z.qs z.ps z.ls z.ws x says-it claim (replicate 288 0) (subst (λ (k : ℕ). 288 ≤ k) (sym (length-replicate {A = ℕ} 288 0)) (omega arith))
 
     memory : Meant.Roomy z.ts z.qs z.ps z.ls z.ws
-    memory = roomy-kept m z long runs.valid.memory
+    memory = roomy-kept m.ts z.ts m.qs z.qs m.ps z.ps m.ls z.ls m.ws z.ws (record { threads = long.threads; queue = long.queue; prios = long.prios; log = long.log; lanes = long.lanes }) runs.valid.memory
 
     abbrev said : Fed
     said = record { report = x.report; written = 0 + length (next_text x) }
