@@ -21,6 +21,9 @@ LEMMAS = ("call_line", "core_at", "in_place", "left_in", "no_line", "no_switch",
 # parts whose definition port.py has spelled anew, while lemmas of it still have the old part; and a field beside a lemma
 KNOWN = ("and_then", "in_use", "move_of", "out_of")
 
+# names that no line `name :` declares: with a level, in a record's head, a module's other name
+MORE = ("byRefusal", "orEmpty", "threadCount", "optionTids", "optionCores", "optionTicks", "optionLeaves")
+
 
 def files(top, endings):
     for folder in ("crates", "docs"):
@@ -56,7 +59,7 @@ def declared(top):
 def main():
     top = os.getcwd()
     lemmas, camel = declared(top)
-    names = {d: snake(d) for d in camel}
+    names = {d: snake(d) for d in (*camel, *MORE)}
     # what port.py has respelled where it is declared, but not everywhere
     for p in files(top, (".antt", ".rt", ".edit")):
         with open(p, encoding="utf-8") as f:

@@ -71,5 +71,5 @@ ticks-next i states old new u h l e =
       rest = λ j b. get_or-set_other new i j u no_ticks (λ q. omega (arith, b, q)) ∙ h.rest j (omega (arith, b));
     }
 
-pub ticks-end : {i : ℕ} {states : List Program.CoreState} {old new : List Counters.CoreTicks} (n : ℕ) → TicksCharged i states old new → i ≤ n → n ≤ i → TicksCharged n states old new
-ticks-end {i} {states} {old} {new} n h a b = subst (λ (m : ℕ). TicksCharged m states old new) (omega arith) h
+pub ticks_end : {i : ℕ} {states : List Program.CoreState} {old new : List Counters.CoreTicks} (n : ℕ) → TicksCharged i states old new → i ≤ n → n ≤ i → TicksCharged n states old new
+ticks_end {i} {states} {old} {new} n h a b = subst (λ (m : ℕ). TicksCharged m states old new) (omega arith) h

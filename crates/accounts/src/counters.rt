@@ -10,6 +10,7 @@ use model::{CoreState, CoreTicks};
 use ticks::charged_ticks;
 
 // "Charging a tick changes one core's three counters and nothing beside them in the step that counts this core"
+#[tactic(auto, using(crate::proofs::Counting::ticks_end))]
 pub fn charge_ticks(ticks: [CoreTicks; 8], states: [CoreState; 8], n: usize) -> [CoreTicks; 8]
     requires { (n ≤ 8) × ((i : ℕ) → i < n → TicksRoom (get_or ticks i no_ticks)) }
     ensures { TicksCharged n states ticks result }

@@ -14,7 +14,7 @@ use Rattle.rings.specs.Ring.{capacity, RingOK}
 use Rattle.state.specs.declared.Sched.{Sched}
 use Rattle.state.specs.State.{state_in, states_of, no_ticks, no_pos, lane_start}
 use Rattle.accounts.specs.Charging.{part, LaneCharged, Outside}
-use Rattle.accounts.proofs.Counting.{ticks-none, ticks-next, ticks-end}
+use Rattle.accounts.proofs.Counting.{ticks-none, ticks-next, ticks_end}
 use Rattle.accounts.proofs.Timelines.{lanes-none, lanes_next, lanes_end, next-ok}
 use Rattle.tick_plan.specs.Plan.{ChargeFits, ChargedOf}
 
@@ -48,7 +48,7 @@ module _ (s : Sched) (ws : List ℕ) (f : ChargeFits s ws) (one : s.cores ≡ 1)
       → ChargedOf s ws ws' (record { ticks = set s.ticks 0 u; lanes = set s.lanes 0 q })
   charged-one x ex u eu ws' q y o size l m =
       record {
-        ticks = ticks-end s.cores (ticks-next 0 states s.ticks s.ticks u (ticks-none states s.ticks) (omega (arith, l)) (rw ex at eu)) (omega (arith, one)) (omega (arith, one));
+        ticks = ticks_end s.cores (ticks-next 0 states s.ticks s.ticks u (ticks-none states s.ticks) (omega (arith, l)) (rw ex at eu)) (omega (arith, one)) (omega (arith, one));
         lanes = lanes_end s.cores
             (lanes_next c 0 s.now.0 states ws ws s.lanes s.lanes 80 end (lanes-none c s.now.0 states ws s.lanes) starts e lane-fits ws' q (omega (arith, m)) (rw ex at y) o size)
             (omega (arith, one)) (omega (arith, one));
