@@ -38,7 +38,7 @@ use Rattle.state.specs.Memory.{memory, Unchanged}
 use Rattle.state.specs.State.{firsts, core_from, states_of, meant_at, no_ticks, no_pos, lane_start, lane_words, log_words, Valid}
 use Rattle.checks.specs.Check.{check_meant}
 use Rattle.walkkit.specs.Firsts as Walk
-use Rattle.new_plan.proofs.Firsts.{length-firsts, drop-firsts}
+use Rattle.walkkit.proofs.Firsts.{length-firsts, drop-firsts}
 use Rattle.new_plan.specs.First.{core_count, is_short, or_refusal, new_refusal, taken_count, first_sched, with_log, first_events, FirstLogged, CreateFit, CreatedAs}
 use Rattle.new_plan.specs.Made.{same_at, NewTaken, NewDone}
 

@@ -2,7 +2,7 @@ use Rattle.std.proofs.Common.{◌≡◌, ℕ, ◌+◌, ◌<◌, List, length, sl
 use Rattle.model.specs.declared.ThreadInfo.{ThreadInfo}
 use Rattle.walkkit.specs.Firsts.{firsts}
 use Rattle.new_plan.specs.Made.{same_at}
-use Rattle.new_plan.proofs.Firsts.{length-firsts, firsts-next, firsts-zero}
+use Rattle.walkkit.proofs.Firsts.{length-firsts, firsts-next, firsts-zero}
 use Rattle.sched_new.proofs.set_first.Goals as goal
 
 one-more : (t : ThreadInfo) (i : ℕ) (l l' : List ThreadInfo) → i < length l' → l' ≡ firsts (same_at t) i l → slice_set l' i t ≡ firsts (same_at t) (i + 1) l

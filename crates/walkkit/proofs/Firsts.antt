@@ -1,4 +1,4 @@
--- `firsts f n l`, of walkkit's `specs/`: what a loop in place makes of a list, one element at a time.
+-- `firsts f n l`, of `specs/`: what a loop in place makes of a list, one element at a time.
 -- Assumes nothing.
 use mathlib.Core.Path.{◌≡◌, refl, ap}
 use Prim.Native.Nat.{ℕ, zero, suc, ◌+◌, ◌<◌}
