@@ -8,7 +8,6 @@
 
 ghost use Rattle.std.specs.Prelude.{◌≤◌};
 
-use text::STDOUT_FILENO;
 use model::{OptionOut, OptionTid, SwitchWords, ThreadInfo};
 use records::change::first_thread;
 use replay_array::{ReplayedArray, replay_in};
@@ -16,6 +15,7 @@ use sched::Outcome;
 use settings::{SchedConfig, SchedPolicy};
 use state::Capacities;
 use switches::{SwitchList, switch_of};
+use text::STDOUT_FILENO;
 
 const CALLS: usize = 3_000;
 

@@ -8,8 +8,8 @@ ghost use Rattle.report_io.specs.Blocks.{Within, Roomy, no_line, brought_front, 
 use crate::{BLOCK, MAX_TURNS, Marked, Place, Upcoming};
 use feed_plan::reading::read_piece;
 use feed_plan::{Line, Plain, Reader, Stage};
-use text::STDIN_FILENO;
 use sched::Call;
+use text::STDIN_FILENO;
 use text::lines::{is_same, piece_end};
 
 // The n bytes from `at` on go to the front.

@@ -7,8 +7,7 @@ returns-then-p-most c =
     (record { within = c.requires.0; room = omega arith }, written-kept c.args.most c.args.p _ (omega arith))
 
 pub returns : goal.returns
-returns c =
-    (
-      record { within = record { begins = c.requires.0.begins; ends = c.requires.0.ends; pending = omega arith; turns = c.requires.0.turns }; room = omega arith },
-      written_out c.args.most c.args.p c.write_all-is_written.result (omega arith),
-    )
+returns c = (
+  record { within = record { begins = c.requires.0.begins; ends = c.requires.0.ends; pending = omega arith; turns = c.requires.0.turns }; room = omega arith },
+  written_out c.args.most c.args.p c.write_all-is_written.result (omega arith),
+)
