@@ -1,4 +1,4 @@
--- What `bytes::scan::find` promises, at the places that the definition of a line speaks of: the byte 10 that ends a piece, the first `=`, the next comma.
+-- What `text::scan::find` promises, at the places that the definition of a line speaks of: the byte 10 that ends a piece, the first `=`, the next comma.
 use Prim.Native.Nat.{ℕ, suc, ◌+◌, ◌-◌, ◌≤◌, ◌<◌}
 use mathlib.Core.Path.{◌≡◌, refl, sym, ap, ◌∙◌}
 use mathlib.Core.Bool.{Bool, true, false, cond}
