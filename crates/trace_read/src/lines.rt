@@ -27,6 +27,8 @@ fn set_byte(buffer: &mut [u8], i: usize, b: u8)
     buffer[i] = b;
 }
 
+const LINE_END: u8 = 10;
+
 // One line without its byte 10, read byte by byte: whoever holds the thread records then needs no input buffer. A line that is too long is cut.
 fn read_bytes(buffer: &mut [u8]) -> usize
     ensures { (result ≤ length buffer.old) × (all (λ b. not (eqb b 10)) (take result buffer.new) ≡ true) }
@@ -34,7 +36,7 @@ fn read_bytes(buffer: &mut [u8]) -> usize
     let mut i = 0;
     while i < buffer.len() {
         let b = read_byte();
-        if b == 10 {
+        if b == LINE_END {
             return i;
         }
         set_byte(buffer, i, b);
