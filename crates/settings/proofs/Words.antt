@@ -1,90 +1,81 @@
--- The table of policy words by its columns.
-use mathlib.Core.Path.{◌≡◌, refl, ap}
-use mathlib.Core.Bool.{Bool, true, false, ◌&&◌}
-use mathlib.Core.Option.{none, some}
-use mathlib.Core.List.{List, [], ◌∷◌, map}
-use Prim.Native.Nat.{ℕ, zero, suc, ◌+◌, ◌≤◌, ◌<◌, zero-le}
-use native.Mathlib.Nat.{le_of_suc-le-suc, not-suc-le-zero}
-use native.Mathlib.Numerals.{add-one}
-use native.Mathlib.Omega.{arith}
-use lib.Dec.{T, eqb, leb, leb→le}
-use lib.ListN.{length, get_or, take, drop, drop_of_length-le, length-take}
-use lib.Seq.{drop-cons}
-use Rattle.settings.specs.declared.SchedPolicy.{SchedPolicy}
-use Rattle.settings.specs.declared.SchedPolicy.TheVariants as P
-use Rattle.settings.specs.declared.Word.{Word}
-use Rattle.settings.specs.Reading.{Spells}
+-- The table of policy words by its rows.
+use Rattle.std.proofs.Common.{ℕ, zero, suc, ◌+◌, ◌<◌, ◌≡◌, refl, sym, ◌∙◌, Bool, true, false, cond, ◌&&◌, List, [], ◌∷◌, map, length, get_or, drop, IsTrue, ◌↔◌, ◌≤◌, arith, ltb, leb, add-one}
+use borrow.Author.Tests.{le-leb, lt-leb, ltb-true, ltb-false}
+use Rattle.std.specs.Char.{to_ascii_lowercase}
+use Rattle.std.proofs.Math.Option.{none, some}
+use Rattle.settings.specs.declared.policy.PolicyWord.{PolicyWord}
 use Rattle.settings.specs.Policy.{Policy}
-use Rattle.text.specs.Bytes.{ascii, same, lookup}
-use Rattle.settings.specs.Settings.{entry_word, entry_policy, words}
+use Rattle.settings.specs.Reading.{policy_meant}
+use Rattle.text.specs.Bytes.{same, lower_of, lookup}
+use Rattle.settings.specs.Settings.{policy_of}
+use lib.ListN.{drop_of_length-le}
+use Rattle.text.proofs.Places.{same-eq, same_refl}
+use Rattle.text.proofs.Decimal.{and-fst, and-snd}
 
----- the table
+-- a row of the program's table as an entry of the definition's
+abbrev pub entry : PolicyWord → List ℕ × Policy
+entry r = (r.word.now, policy_meant r.policy)
 
--- a column of lengths and a column of padded rows
-abbrev pub shorten : List ℕ → List (List ℕ) → List (List ℕ)
-shorten [] t = []
-shorten (n ∷ l) [] = []
-shorten (n ∷ l) (r ∷ t) = take n r ∷ shorten l t
+-- no word has a capital: one test that antt computes
+abbrev pub is_small : List PolicyWord → Bool
+is_small [] = true
+is_small (r ∷ t) = same (map lower_of r.word.now) r.word.now && is_small t
 
-pub shorten-at : (l : List ℕ) (t : List (List ℕ)) (k : ℕ) (d : List ℕ) → k < length l → k < length t → get_or (shorten l t) k [] ≡ take (get_or l k 0) (get_or t k d)
-shorten-at [] t k d hl ht = absurd (not-suc-le-zero hl)
-shorten-at (n ∷ l) [] k d hl ht = absurd (not-suc-le-zero ht)
-shorten-at (n ∷ l) (r ∷ t) zero d hl ht = refl
-shorten-at (n ∷ l) (r ∷ t) (suc k) d hl ht = shorten-at l t k d (le_of_suc-le-suc hl) (le_of_suc-le-suc ht)
+lower-is : (b : ℕ) → to_ascii_lowercase b ≡ lower_of b
+lower-is b = go (ltb b 65) refl
+  where
+    go : (t : Bool) → ltb b 65 ≡ t → to_ascii_lowercase b ≡ lower_of b
+    go true e = rw (e, lt-leb 65 b (ltb-true b 65 e))
+    go false e = let h : 65 ≤ b = ltb-false b 65 e in rw (e, le-leb 65 b h) (high h (ltb b 91) refl)
+      where
+        high : 65 ≤ b → (t : Bool) → ltb b 91 ≡ t → cond (ltb b 91) (b + 32) b ≡ cond (leb b 90) (b + 32) b
+        high h true k = let q : b ≤ 90 = let r = ltb-true b 91 k in omega arith in rw (k, le-leb b 90 q)
+        high h false k = let q : 90 < b = let r = ltb-false b 91 k in omega arith in rw (k, lt-leb b 90 q)
 
--- the columns as src/ has them: antt compares them with the definition's words
-abbrev pub lengths : List ℕ
-lengths = 3 ∷ 4 ∷ 6 ∷ 4 ∷ 4 ∷ 2 ∷ 11 ∷ 10 ∷ 11 ∷ 8 ∷ 4 ∷ []
+lowers-are : (w : List ℕ) → map to_ascii_lowercase w ≡ map lower_of w
+lowers-are [] = refl
+lowers-are (b ∷ w) = rw (lower-is b, lowers-are w)
 
-abbrev pub rows : List (List ℕ)
-rows =
-    ascii "off\0\0\0\0\0\0\0\0" ∷ ascii "none\0\0\0\0\0\0\0" ∷ ascii "pinned\0\0\0\0\0" ∷
-    ascii "fifo\0\0\0\0\0\0\0" ∷ ascii "fcfs\0\0\0\0\0\0\0" ∷
-    ascii "rr\0\0\0\0\0\0\0\0\0" ∷ ascii "round-robin" ∷ ascii "roundrobin\0" ∷ ascii "round_robin" ∷
-    ascii "priority\0\0\0" ∷ ascii "prio\0\0\0\0\0\0\0" ∷ []
+-- the program's test of a word w against a row's word v
+told : (w v : List ℕ) (r : Bool) → (IsTrue r ↔ (map to_ascii_lowercase w ≡ map to_ascii_lowercase v)) → same (map lower_of v) v ≡ true → same (map lower_of w) v ≡ r
+told w v r h s = go r (same (map lower_of w) v) refl h
+  where
+    low : map to_ascii_lowercase v ≡ v
+    low = lowers-are v ∙ same-eq (map lower_of v) v s
 
-pub rows_words : shorten lengths rows ≡ words
-rows_words = refl
+    go : (r t : Bool) → same (map lower_of w) v ≡ t → (IsTrue r ↔ (map to_ascii_lowercase w ≡ map to_ascii_lowercase v)) → same (map lower_of w) v ≡ r
+    go true t e h = rw (sym (lowers-are w) ∙ h.0 refl ∙ low) (same_refl v)
+    go false true e h = e ∙ sym (h.1 (lowers-are w ∙ same-eq (map lower_of w) v e ∙ sym low))
+    go false false e h = e
 
--- every word of a list has at most n letters: one test that antt computes
-abbrev pub fit : ℕ → List (List ℕ) → Bool
-fit n [] = true
-fit n (x ∷ l) = leb (length x) n && fit n l
+-- what the rows from k on say of a word is what the definition's table says
+pub record Rest (w : List ℕ) (t : List PolicyWord) (k : ℕ) : Type 0 where
+  pub small : is_small t ≡ true
+  pub says : lookup (map lower_of w) (map entry (drop k t)) ≡ policy_of w
 
-and_left : (a b : Bool) → T (a && b) → T a
-and_left true b t = tt
-and_left false b t = t
+module _ (w : List ℕ) (d : PolicyWord) (r : Bool) where
+  here : (t : List PolicyWord) (k : ℕ) → k < length t → is_small t ≡ true → (IsTrue r ↔ (map to_ascii_lowercase w ≡ map to_ascii_lowercase (get_or t k d).word.now)) → r ≡ true
+      → lookup (map lower_of w) (map entry (drop k t)) ≡ some (policy_meant (get_or t k d).policy)
+  here [] k h s e q = absurd (omega arith)
+  here (x ∷ t) zero h s e q = rw (told w x.word.now r e (and-fst (same (map lower_of x.word.now) x.word.now) (is_small t) s), q)
+  here (x ∷ t) (suc k) h s e q = here t k (omega arith) (and-snd (same (map lower_of x.word.now) x.word.now) (is_small t) s) e q
 
-and_right : (a b : Bool) → T (a && b) → T b
-and_right true b t = t
-and_right false b t = absurd t
+  next : (t : List PolicyWord) (k : ℕ) → k < length t → is_small t ≡ true → (IsTrue r ↔ (map to_ascii_lowercase w ≡ map to_ascii_lowercase (get_or t k d).word.now)) → r ≡ false
+      → lookup (map lower_of w) (map entry (drop k t)) ≡ lookup (map lower_of w) (map entry (drop (suc k) t))
+  next [] k h s e q = absurd (omega arith)
+  next (x ∷ t) zero h s e q = rw (told w x.word.now r e (and-fst (same (map lower_of x.word.now) x.word.now) (is_small t) s), q)
+  next (x ∷ t) (suc k) h s e q = next t k (omega arith) (and-snd (same (map lower_of x.word.now) x.word.now) (is_small t) s) e q
 
-pub fit_at : (n : ℕ) (l : List (List ℕ)) → T (fit n l) → (k : ℕ) → length (get_or l k []) ≤ n
-fit_at n [] t k = zero-le
-fit_at n (x ∷ l) t zero = leb→le (length x) n (and_left (leb (length x) n) (fit n l) t)
-fit_at n (x ∷ l) t (suc k) = fit_at n l (and_right (leb (length x) n) (fit n l) t) k
+pub row-here : {w : List ℕ} {t : List PolicyWord} {k : ℕ} (d : PolicyWord) (r : Bool) → Rest w t k → k < length t → (IsTrue r ↔ (map to_ascii_lowercase w ≡ map to_ascii_lowercase (get_or t k d).word.now)) → r ≡ true → some (policy_meant (get_or t k d).policy) ≡ policy_of w
+row-here {w} {t} {k} d r p h e q = sym (here w d r t k h p.small e q) ∙ p.says
 
--- from the k-th entry on
-module _ (w : List ℕ) where
-  pub lookup-here : (t : List (List ℕ × Policy)) (k : ℕ) (d : Policy) → k < length t → same w (get_or (map entry_word t) k []) ≡ true → lookup w (drop k t) ≡ some (get_or (map entry_policy t) k d)
-  lookup-here [] k d h e = absurd (not-suc-le-zero h)
-  lookup-here (x ∷ t) zero d h e = rw e
-  lookup-here (x ∷ t) (suc k) d h e = lookup-here t k d (le_of_suc-le-suc h) e
+pub row-pass : {w : List ℕ} {t : List PolicyWord} {k : ℕ} (d : PolicyWord) (r : Bool) → Rest w t k → k < length t → (IsTrue r ↔ (map to_ascii_lowercase w ≡ map to_ascii_lowercase (get_or t k d).word.now)) → r ≡ false → Rest w t (k + 1)
+row-pass {w} {t} {k} d r p h e q = record {
+  small = p.small;
+  says = rw add-one (sym (next w d r t k h p.small e q) ∙ p.says);
+}
 
-  lookup-next : (t : List (List ℕ × Policy)) (k : ℕ) → k < length t → same w (get_or (map entry_word t) k []) ≡ false → lookup w (drop k t) ≡ lookup w (drop (suc k) t)
-  lookup-next [] k h e = absurd (not-suc-le-zero h)
-  lookup-next (x ∷ t) zero h e = rw e
-  lookup-next (x ∷ t) (suc k) h e = lookup-next t k (le_of_suc-le-suc h) e
-
-  pub lookup-pass : (t : List (List ℕ × Policy)) (k : ℕ) → k < length t → same w (get_or (map entry_word t) k []) ≡ false → lookup w (drop k t) ≡ lookup w (drop (k + 1) t)
-  lookup-pass t k h e = rw add-one (lookup-next t k h e)
-
----- the policies' column, as src/ has it
-
-abbrev pub column : List SchedPolicy
-column = P.Off ∷ P.Off ∷ P.Off ∷ P.Fifo ∷ P.Fifo ∷ P.RoundRobin ∷ P.RoundRobin ∷ P.RoundRobin ∷ P.RoundRobin ∷ P.Priority ∷ P.Priority ∷ []
-
----- a word's bytes are there
-
-pub spells-fits : (w : Word) (t : List ℕ) → Spells w t → w.len ≤ length w.bytes
-spells-fits w t p = omega (arith, length-take w.len w.bytes, ap length p.bytes, p.len)
+pub row-none : {w : List ℕ} {t : List PolicyWord} {k : ℕ} → Rest w t k → length t ≤ k → none ≡ policy_of w
+row-none {w} {t} {k} p h =
+    let past : drop k t ≡ [] = drop_of_length-le t {i = k} h in
+    rw past at p.says

@@ -1,14 +1,12 @@
 -- Which part of the definition a value of the program's types stands for.
-use Rattle.std.specs.Prelude.{ℕ, ◌≡◌, List, length, take}
+use Rattle.std.specs.Prelude.{ℕ, Some, None}
+use Rattle.std.specs.Prelude.{Option as Optional}
 use Rattle.std.proofs.Math.Option.{Option, none, some}
 use Rattle.settings.specs.declared.SchedPolicy as Policies
 use Rattle.settings.specs.declared.SchedPolicy.TheVariants as PolicyCases
 use Rattle.settings.specs.declared.SchedConfig as Configs
 use Rattle.settings.specs.declared.Refusal as Refusals
 use Rattle.settings.specs.declared.Refusal.TheVariants as RefusalCases
-use Rattle.settings.specs.declared.Word as Words
-use Rattle.settings.specs.declared.PolicyFound as PoliciesFound
-use Rattle.settings.specs.declared.PolicyFound.TheVariants as PolicyFoundCases
 use Rattle.settings.specs.Policy.{Policy, Off, Fifo, RoundRobin, Priority}
 use Rattle.settings.specs.Settings.{Settings}
 
@@ -41,11 +39,6 @@ refusal_number RefusalCases.ThreadsFull = 17
 refusal_number RefusalCases.ClockLimit = 18
 refusal_number RefusalCases.CounterLimit = 19
 
--- the word w is the text t
-pub record Spells (w : Words.Word) (t : List ℕ) : Type 0 where
-  pub bytes : take w.len w.bytes ≡ t
-  pub len : w.len ≡ length t
-
-abbrev pub policy_found_meant : PoliciesFound.PolicyFound → Option Policy
-policy_found_meant (PolicyFoundCases.Is p) = some (policy_meant p)
-policy_found_meant PolicyFoundCases.Unknown = none
+abbrev pub policy_found_meant : Optional Policies.SchedPolicy → Option Policy
+policy_found_meant (Some p) = some (policy_meant p)
+policy_found_meant None = none

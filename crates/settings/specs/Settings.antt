@@ -1,5 +1,5 @@
 -- Settings: the eleven words, the three keys in their order, the limits, and the text written.
-use Rattle.std.specs.Prelude.{ℕ, zero, suc, ◌≤◌, Bool, true, false, cond, List, [], ◌∷◌, ◌++◌, map, leb}
+use Rattle.std.specs.Prelude.{ℕ, suc, ◌≤◌, cond, List, [], ◌∷◌, ◌++◌, map, leb}
 use Rattle.std.proofs.Math.Option.{Option, none, some}
 use Rattle.settings.specs.Policy.{Policy, Off, Fifo, RoundRobin, Priority}
 use Rattle.settings.specs.Policy.{beyond}

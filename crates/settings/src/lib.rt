@@ -10,7 +10,7 @@ pub mod numbers;
 pub mod policy;
 
 // How the threads share the cores.
-#[derive(Clone, Copy)]
+#[derive(Clone, Copy, PartialEq, Eq, Debug)]
 pub enum SchedPolicy {
     Off,
     Fifo,
@@ -19,7 +19,7 @@ pub enum SchedPolicy {
 }
 
 // The scheduler's settings.
-#[derive(Clone, Copy)]
+#[derive(Clone, Copy, PartialEq, Eq, Debug)]
 pub struct SchedConfig {
     pub policy: SchedPolicy,
     // Ticks a thread runs before round robin hands its core to the next.
@@ -36,8 +36,10 @@ impl SchedConfig {
     pub const MAX_QUANTUM: u32 = 1_000_000;
 
     pub const MAX_SWITCH_COST: u32 = 10_000;
+}
 
-    pub fn default() -> SchedConfig
+impl Default for SchedConfig {
+    fn default() -> SchedConfig
         ensures { settings_meant result ≡ defaults }
     {
         SchedConfig {
@@ -48,26 +50,26 @@ impl SchedConfig {
     }
 }
 
-// Every refusal that the paper numbers; specs/Reading.antt gives each its number.
-#[derive(Clone, Copy)]
+// Every refusal with the paper's number; specs/Reading.antt has them too.
+#[derive(Clone, Copy, PartialEq, Eq, Debug)]
 pub enum Refusal {
-    SettingRange,
-    CoreCount,
-    Capacity,
-    NoCore,
-    NoThread,
-    BadLine,
-    BadPolicy,
-    BadNumber,
-    Closed,
-    Leaving,
-    NotRunning,
-    StillSwitching,
-    NotReady,
-    NobodyWaits,
-    ThreadsFull,
-    ClockLimit,
-    CounterLimit,
+    SettingRange = 1,
+    CoreCount = 2,
+    Capacity = 3,
+    NoCore = 4,
+    NoThread = 5,
+    BadLine = 6,
+    BadPolicy = 7,
+    BadNumber = 8,
+    Closed = 11,
+    Leaving = 12,
+    NotRunning = 13,
+    StillSwitching = 14,
+    NotReady = 15,
+    NobodyWaits = 16,
+    ThreadsFull = 17,
+    ClockLimit = 18,
+    CounterLimit = 19,
 }
 
 impl Refusal {
@@ -75,38 +77,6 @@ impl Refusal {
     pub fn number(self) -> u64
         ensures { result ≡ refusal_number self }
     {
-        match self {
-            Refusal::SettingRange => 1,
-            Refusal::CoreCount => 2,
-            Refusal::Capacity => 3,
-            Refusal::NoCore => 4,
-            Refusal::NoThread => 5,
-            Refusal::BadLine => 6,
-            Refusal::BadPolicy => 7,
-            Refusal::BadNumber => 8,
-            Refusal::Closed => 11,
-            Refusal::Leaving => 12,
-            Refusal::NotRunning => 13,
-            Refusal::StillSwitching => 14,
-            Refusal::NotReady => 15,
-            Refusal::NobodyWaits => 16,
-            Refusal::ThreadsFull => 17,
-            Refusal::ClockLimit => 18,
-            Refusal::CounterLimit => 19,
-        }
+        self as u64
     }
-}
-
-// A word of at most 11 bytes: the first `len` of `bytes`.
-#[derive(Clone, Copy)]
-pub struct Word {
-    pub bytes: [u8; 11],
-    pub len: usize,
-}
-
-// The policy that a word names.
-#[derive(Clone, Copy)]
-pub enum PolicyFound {
-    Is(SchedPolicy),
-    Unknown,
 }

@@ -1,8 +1,13 @@
 -- What `text::scan::find` promises, at the places that the definition of a line speaks of: the byte 10 that ends a piece, the first `=`, the next comma.
 use Prim.Native.Nat.{ℕ, suc, ◌+◌, ◌-◌, ◌≤◌, ◌<◌}
 use mathlib.Core.Path.{◌≡◌, refl, sym, ap, ◌∙◌}
-use mathlib.Core.Bool.{Bool, true, false, cond}
+use mathlib.Core.Bool.{Bool, true, false, cond, not}
 use mathlib.Core.Option.{none, some}
+use Rattle.std.specs.Prelude.{Option, Some, None, unwrap_or}
+use Rattle.std.specs.List.{position, position_or_len}
+use Rattle.std.proofs.lemmas.List.{drop-take, length-take-le}
+use Rattle.std.proofs.lemmas.List.Sums.{prefix_len-le-length}
+use Rattle.std.proofs.lemmas.List.Recursion.{is_position_or_len}
 use mathlib.Core.List.{List, [], ◌∷◌}
 use native.Mathlib.Omega.{arith}
 use borrow.Author.Tests.{eqb-true, eq-eqb, lt-ltb, le-ltb, ltb-true, ltb-false, not-true}
@@ -18,6 +23,31 @@ use Rattle.text.proofs.Pieces.{isnt, cut-nil, cut-open, fields-last}
 use Rattle.text.proofs.Places.{key-at, value-at, field_at, piece-at, no_key}
 
 ---- the first b of a list
+
+-- as the library counts it
+index_is : (b : ℕ) (l : List ℕ) → index_of b l ≡ position_or_len (λ x. eqb x b) l
+unfolding index_of index_after
+index_is b l = is_position_or_len (index_of b) (λ x. eqb x b) refl (λ x t. go (eqb x b) (index_of b t)) l
+  where
+    go : (t : Bool) (n : ℕ) → index_after t n ≡ cond t 0 (1 + n)
+    go true n = refl
+    go false n = omega arith
+
+pub place_or_len : (p : ℕ → Bool) (l : List ℕ) (r : Option ℕ) → r ≡ position p l → unwrap_or r (length l) ≡ position_or_len p l
+place_or_len p l r e = rw e (go (ltb (position_or_len p l) (length l)) refl)
+  where
+    go : (t : Bool) → ltb (position_or_len p l) (length l) ≡ t → unwrap_or (cond t (Some (position_or_len p l)) None) (length l) ≡ position_or_len p l
+    go true k = refl
+    go false k = let h : length l ≤ position_or_len p l = ltb-false _ _ k in omega (arith, prefix_len-le-length (λ x. not (p x)) l)
+
+-- what `position` finds in a part of a text
+pub index_from : (b from to : ℕ) (l : List ℕ) (r : Option ℕ) → from ≤ to → to ≤ length l → r ≡ position (λ x. eqb x b) (take (to - from) (drop from l)) → from + unwrap_or r (to - from) ≡ from + index_of b (slice from to l)
+unfolding slice
+index_from b from to l r h k e =
+    let whole : from + (to - from) ≡ to = omega arith in
+    let part : take (to - from) (drop from l) ≡ drop from (take to l) = sym (drop-take from (to - from) l) ∙ ap (λ (n : ℕ). drop from (take n l)) whole in
+    let n : length (drop from (take to l)) ≡ to - from = rw (length-drop, length-take-le to l k) in
+    ap (λ (n : ℕ). from + n) (ap (unwrap_or r) (sym n) ∙ place_or_len (λ x. eqb x b) (drop from (take to l)) r (e ∙ ap (position (λ x. eqb x b)) part) ∙ sym (index_is b (drop from (take to l))))
 
 found_passed : (b : ℕ) (l : List ℕ) → all (isnt b) (take (index_of b l) l) ≡ true
 unfolding index_of index_after
@@ -37,15 +67,6 @@ found_here b (x ∷ l) h = go (eqb x b) refl h (λ k. found_here b l k)
     go true e k r = eqb-true x b e
     go false e k r = r (omega arith)
 
-found_within : (b : ℕ) (l : List ℕ) → index_of b l ≤ length l
-unfolding index_of index_after
-found_within b [] = omega arith
-found_within b (x ∷ l) = go (eqb x b) (found_within b l)
-  where
-    go : (t : Bool) → index_of b l ≤ length l → index_after t (index_of b l) ≤ suc (length l)
-    go true r = omega arith
-    go false r = omega arith
-
 -- none of them at all
 found_none : (b : ℕ) (l : List ℕ) → length l ≤ index_of b l → all (isnt b) l ≡ true
 found_none b l h = ap (all (isnt b)) (sym (take_all (index_of b l) l h)) ∙ found_passed b l
@@ -55,9 +76,6 @@ found_none b l h = ap (all (isnt b)) (sym (take_all (index_of b l) l h)) ∙ fou
 pub search-place : (b : ℕ) (l : List ℕ) (from r : ℕ) → r ≡ from + index_of b (slice from (length l) l) → r ≡ from + index_of b (drop from l)
 unfolding slice
 search-place b l from r e = e ∙ ap (λ (t : List ℕ). from + index_of b (drop from t)) (take-length l)
-
-pub search-within : (b : ℕ) (l : List ℕ) (from r : ℕ) → from ≤ length l → r ≡ from + index_of b (drop from l) → r ≤ length l
-search-within b l from r h e = omega (arith, found_within b (drop from l), length-drop from l)
 
 module _ (l : List ℕ) (from r : ℕ) (h : from ≤ length l) where
   -- the list from `from` on, and from behind the place on

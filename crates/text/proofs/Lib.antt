@@ -6,4 +6,3 @@ pub mod Found
 pub mod Trimming
 pub mod Printed
 pub mod Puts
-pub mod Compare

@@ -1,5 +1,5 @@
 -- The first place of a byte in a list, or the list's length where it has none.
-use Rattle.std.specs.Prelude.{ℕ, zero, suc, Bool, true, false, List, [], ◌∷◌, eqb, take, drop}
+use Rattle.std.specs.Prelude.{ℕ, suc, Bool, true, false, List, [], ◌∷◌, eqb, take, drop}
 
 unfoldable pub index_after : Bool → ℕ → ℕ
 index_after true n = 0

@@ -11,10 +11,3 @@ pub mod scan;
 pub const STDIN_FILENO: i32 = 0;
 
 pub const STDOUT_FILENO: i32 = 1;
-
-// A number as `parse::<u32>` reads it.
-#[derive(Clone, Copy)]
-pub enum Number {
-    Is(u32),
-    Unreadable,
-}

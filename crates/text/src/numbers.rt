@@ -1,47 +1,34 @@
 // Numbers read as `parse::<u32>` reads them.
-ghost use Rattle.std.specs.Prelude.{◌≡◌, ◌≤◌, length, drop};
+ghost use Rattle.std.specs.Prelude.{◌≡◌};
 ghost use Rattle.text.specs.Bytes.{at_most, value_from, number};
 ghost use Rattle.text.specs.Reading.{number_meant};
 
-use crate::Number;
+const LARGEST: u64 = 4_294_967_295;
 
-// The number that the digits from `start` on spell, 0 where there are none.
-fn digits_from(f: &[u8], start: usize) -> Number
-    requires { start ≤ length f.now }
-    ensures { number_meant result ≡ at_most 4294967295 (value_from 0 (drop start f.now)) }
+// The number that digits spell, 0 where there are none.
+fn value_of(digits: &[u8]) -> Option<u32>
+    ensures { number_meant result ≡ at_most 4294967295 (value_from 0 digits.now) }
 {
-    let mut i = start;
-    let mut a: u64 = 0;
-    while i < f.len() {
-        let d = f[i];
-        if d < 48 {
-            return Number::Unreadable;
+    let mut value: u64 = 0;
+    for digit in digits {
+        if !digit.is_ascii_digit() {
+            return None;
         }
-        if d > 57 {
-            return Number::Unreadable;
+        value = value * 10 + (*digit - b'0') as u64;
+        if value > LARGEST {
+            return None;
         }
-        let v = (d - 48) as u64;
-        a = a * 10 + v;
-        if a > 4294967295 {
-            return Number::Unreadable;
-        }
-        i += 1;
     }
-    Number::Is(a as u32)
+    Some(value as u32)
 }
 
 // One leading `+` is allowed, then comes at least one digit.
-pub fn read_number(f: &[u8]) -> Number
+pub fn read_number(f: &[u8]) -> Option<u32>
     ensures { number_meant result ≡ number f.now }
 {
-    if f.len() == 0 {
-        return Number::Unreadable;
+    let digits = f.strip_prefix(b"+").unwrap_or(f);
+    if digits.is_empty() {
+        return None;
     }
-    if f[0] != 43 {
-        return digits_from(f, 0);
-    }
-    if f.len() == 1 {
-        return Number::Unreadable;
-    }
-    digits_from(f, 1)
+    value_of(digits)
 }

@@ -1,28 +1,17 @@
-use borrow.Author.Rules.{rules}
-use native.Mathlib.Omega.{arith}
-use Prim.Native.Nat.{◌-◌}
-use mathlib.Core.Path.{◌≡◌, sym, ◌∙◌, ap}
-use mathlib.Core.Option.{some}
-use mathlib.Core.List.{map}
-use Rattle.settings.specs.Policy.{Off}
-use Rattle.text.specs.Bytes.{lower_of}
-use Rattle.settings.specs.Settings.{policy_words, policy_of}
-use Rattle.settings.proofs.Words.{lookup-here, lookup-pass}
+use Rattle.std.proofs.Common.{refl, arith}
+use Rattle.settings.specs.Settings.{policy_of}
+use Rattle.settings.proofs.Words.{row-here, row-pass, row-none}
 use Rattle.settings.proofs.policy.policy_of.Goals as goal
 
-pub returns-then-is_word : goal.returns-then-is_word
+pub loop-row-init : goal.loop-row-init
 unfolding policy_of
-returns-then-is_word c =
-    ap some c.policy_at.ensures ∙
-    sym (lookup-here (map lower_of c.args.w.now) policy_words c.loop-k.k Off (omega arith) (sym c.is_word.ensures ∙ c.if-is_word.true)) ∙
-    c.loop-k.invariant.1
+loop-row-init c = record { small = refl; says = refl }
 
-pub loop-k-preserved : goal.loop-k-preserved
-loop-k-preserved c =
-    (search rules, sym (lookup-pass (map lower_of c.args.w.now) policy_words c.loop-k.k (omega arith) (sym c.is_word.ensures ∙ c.if-is_word.false)) ∙ c.loop-k.invariant.1)
+pub loop-row-preserved : goal.loop-row-preserved
+loop-row-preserved c = row-pass _ _ c.loop-row.invariant (omega arith) c.eq_ignore_ascii_case.ensures.test c.if-eq_ignore_ascii_case.false
+
+pub returns-then-eq_ignore_ascii_case : goal.returns-then-eq_ignore_ascii_case
+returns-then-eq_ignore_ascii_case c = row-here _ _ c.loop-row.invariant (omega arith) c.eq_ignore_ascii_case.ensures.test c.if-eq_ignore_ascii_case.true
 
 pub returns : goal.returns
-unfolding policy_of
-returns c =
-    let e : c.loop-k.k ≡ 11 = omega arith in
-    rw e at c.loop-k.invariant.1
+returns c = row-none c.loop-row.invariant (omega arith)

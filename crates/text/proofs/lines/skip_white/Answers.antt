@@ -1,23 +1,14 @@
-use borrow.Author.Rules.{rules}
-use native.Mathlib.Omega.{arith}
-use borrow.Author.Tests.{not-true, not-false}
-use Prim.Native.Nat.{◌-◌}
-use mathlib.Core.Path.{◌≡◌, sym, ◌∙◌, ap}
-use lib.ListN.{drop, drop_of_length-le}
-use mathlib.Core.List.{[]}
-use Rattle.text.specs.Lines.{trim_start}
-use Rattle.text.proofs.Trimming.{start-pass, start-stop}
+use Rattle.std.proofs.Common.{ℕ, rules, ap, drop, ◌∙◌, not, arith}
+use borrow.Author.Tests.{tests}
+use Rattle.std.proofs.lemmas.Iterator.{YieldsList-from_slice}
+use Rattle.std.proofs.lemmas.Iterator.Search.{position_from_yields_List}
+use Rattle.std.proofs.lemmas.List.Sums.{prefix_len-le-length}
+use Rattle.text.proofs.Found.{place_or_len}
+use Rattle.text.proofs.Trimming.{dark, start_is}
 use Rattle.text.proofs.lines.skip_white.Goals as goal
-
-pub returns-then-not-is_white : goal.returns-then-not-is_white
-returns-then-not-is_white c =
-    (search rules, sym (start-stop c.args.line.now c.loop-i.i (omega arith) (sym c.is_white.ensures ∙ not-true _ c.if-not-is_white.true-raw)) ∙ c.loop-i.invariant.1)
-
-pub loop-i-preserved : goal.loop-i-preserved
-loop-i-preserved c =
-    (search rules, sym (start-pass c.args.line.now c.loop-i.i (omega arith) (sym c.is_white.ensures ∙ not-false _ c.if-not-is_white.false-raw)) ∙ c.loop-i.invariant.1)
 
 pub returns : goal.returns
 returns c =
-    let none : drop c.loop-i.i c.args.line.now ≡ [] = drop_of_length-le c.args.line.now {i = c.loop-i.i} (omega arith) in
-    (search rules, none ∙ sym (ap trim_start none) ∙ c.loop-i.invariant.1)
+    let found = position_from_yields_List dark _ _ c.position.result c.position.ensures.ran (YieldsList-from_slice c.args.line.now cc) (λ x b q k. search (rules, tests)) in
+    let e = c.unwrap_or.ensures ∙ place_or_len dark c.args.line.now c.position.result found in
+    (omega (arith, prefix_len-le-length (λ x. not (dark x)) c.args.line.now), ap (λ (n : ℕ). drop n c.args.line.now) e ∙ start_is c.args.line.now)

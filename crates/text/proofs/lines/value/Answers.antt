@@ -1,20 +1,16 @@
-use native.Mathlib.Omega.{arith}
-use mathlib.Core.Path.{◌≡◌, sym, ◌∙◌, ap}
-use mathlib.Core.List.{[]}
-use Prim.Native.Nat.{◌+◌, ◌-◌}
-use lib.ListN.{length, take, drop, length-drop, drop_of_length-le}
-use lib.Seq.{take-nil, take_all}
-use Rattle.text.specs.Lines.{trim, value}
+use Rattle.std.proofs.Common.{◌∙◌, sym, ap, ◌≡◌, ◌+◌, length, arith, drop, []}
+use Rattle.std.proofs.lemmas.List.{take_rest}
+use lib.ListN.{drop_of_length-le}
+use Rattle.text.specs.Lines.{value, trim}
 use Rattle.text.proofs.lines.value.Goals as goal
 
-pub returns-then-p-line : goal.returns-then-p-line
+pub returns-in-Some : goal.returns-in-Some
 unfolding value
-returns-then-p-line c =
-    let none : drop c.equals_at-p.result c.args.line.now ≡ [] = drop_of_length-le c.args.line.now {i = c.equals_at-p.result} (omega arith) in
-    let past : drop (c.equals_at-p.result + 1) c.args.line.now ≡ [] = drop_of_length-le c.args.line.now {i = c.equals_at-p.result + 1} (omega arith) in
-    ap (take (length c.args.line.now - c.equals_at-p.result)) none ∙ take-nil (length c.args.line.now - c.equals_at-p.result) ∙ sym (ap trim (c.equals_at-p.ensures.2 ∙ past))
+returns-in-Some c = c.trimmed.ensures ∙ ap trim (take_rest c.args.line.now (c.in-Some.p + 1) ∙ sym c.in-Some.ensures.place.2)
 
-pub returns : goal.returns
+pub returns-in-None : goal.returns-in-None
 unfolding value
-returns c =
-    c.trimmed.ensures ∙ ap trim (take_all (length c.args.line.now - (c.equals_at-p.result + 1)) (drop (c.equals_at-p.result + 1) c.args.line.now) (rw length-drop (omega arith)) ∙ sym c.equals_at-p.ensures.2)
+returns-in-None c =
+    let behind : drop (length c.args.line.now) c.args.line.now ≡ [] = drop_of_length-le c.args.line.now {i = length c.args.line.now} (omega arith) in
+    let past : drop (length c.args.line.now + 1) c.args.line.now ≡ [] = drop_of_length-le c.args.line.now {i = length c.args.line.now + 1} (omega arith) in
+    take_rest c.args.line.now (length c.args.line.now) ∙ behind ∙ sym (ap trim (c.in-None.ensures.place.2 ∙ past))

@@ -1,16 +1,17 @@
-use mathlib.Core.Path.{sym, ◌∙◌}
-use native.Mathlib.Omega.{arith}
-use Rattle.text.proofs.Places.{number-empty, number-plain, number-plus, number-lone}
+use Rattle.std.proofs.Common.{ℕ, List, ◌≡◌, ◌∙◌, sym, ap, arith}
+use borrow.Author.Tests.{eqb-true, eqb-false}
+use denote.Ref.{Bor}
+use Rattle.text.specs.Bytes.{at_most, value_from, unsigned}
+use Rattle.text.proofs.Places.{unsigned-is, number-empty, number-some}
 use Rattle.text.proofs.numbers.read_number.Goals as goal
 
-pub returns-then-f-eq0 : goal.returns-then-f-eq0
-returns-then-f-eq0 c = sym (number-empty c.args.f.now (omega arith))
-
-pub returns-then-f-ne43 : goal.returns-then-f-ne43
-returns-then-f-ne43 c = c.digits_from.ensures ∙ sym (number-plain c.args.f.now (omega arith) c.if-f-ne43.true)
-
-pub returns-then-f-eq1 : goal.returns-then-f-eq1
-returns-then-f-eq1 c = sym (number-lone c.args.f.now (omega arith) (omega arith))
+pub returns-then-is_empty : goal.returns-then-is_empty
+returns-then-is_empty c =
+    let digits : c.unwrap_or-digits.result.now ≡ unsigned c.args.f.now = ap (λ (b : Bor (List ℕ)). b.now) c.unwrap_or-digits.ensures ∙ unsigned-is c.args.f c.strip_prefix.result c.strip_prefix.ensures.cases in
+    sym (number-empty c.args.f.now (rw (← digits) (eqb-true _ 0 (sym c.is_empty.ensures ∙ c.if-is_empty.true))))
 
 pub returns : goal.returns
-returns c = c.digits_from-2.ensures ∙ sym (number-plus c.args.f.now (omega arith) (omega arith))
+returns c =
+    let digits : c.unwrap_or-digits.result.now ≡ unsigned c.args.f.now = ap (λ (b : Bor (List ℕ)). b.now) c.unwrap_or-digits.ensures ∙ unsigned-is c.args.f c.strip_prefix.result c.strip_prefix.ensures.cases in
+    let some = eqb-false _ 0 (sym c.is_empty.ensures ∙ c.if-is_empty.false) in
+    c.value_of.ensures ∙ ap (λ (l : List ℕ). at_most 4294967295 (value_from 0 l)) digits ∙ sym (number-some c.args.f.now (rw (← digits) (omega (arith, some))))
