@@ -23,3 +23,4 @@ pub mod Reading
 pub mod Bound
 pub mod Cases
 pub mod Invariants
+pub mod Reasons

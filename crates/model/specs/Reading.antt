@@ -1,20 +1,12 @@
 -- Which part of the definition a value of the program's types stands for. Contracts read the program's values through these.
-use Rattle.std.specs.Prelude.{ℕ, zero, suc, List, map, take}
+use Rattle.std.specs.Prelude.{ℕ, zero, suc, List, map, take, Some, None, Result, Ok, Err}
+use Rattle.std.specs.Prelude as Std
 use Rattle.std.proofs.Math.Option.{Option, none, some}
 use Rattle.settings.specs.Reading.{policy_meant, refusal_number}
+use Rattle.settings.specs.declared.Refusal.{Refusal}
 use Rattle.model.specs.declared.Tid.{Tid}
 use Rattle.model.specs.declared.CoreId.{CoreId}
 use Rattle.model.specs.declared.Tick.{Tick}
-use Rattle.model.specs.declared.OptionTid.{OptionTid}
-use Rattle.model.specs.declared.OptionTid.TheVariants as OptionTidCases
-use Rattle.model.specs.declared.OptionCore.{OptionCore}
-use Rattle.model.specs.declared.OptionCore.TheVariants as OptionCoreCases
-use Rattle.model.specs.declared.OptionTick.{OptionTick}
-use Rattle.model.specs.declared.OptionTick.TheVariants as OptionTickCases
-use Rattle.model.specs.declared.OptionLeave.{OptionLeave}
-use Rattle.model.specs.declared.OptionLeave.TheVariants as OptionLeaveCases
-use Rattle.model.specs.declared.OptionOut.{OptionOut}
-use Rattle.model.specs.declared.OptionOut.TheVariants as OptionOutCases
 use Rattle.model.specs.declared.CoreState as CoreStates
 use Rattle.model.specs.declared.CoreState.TheVariants as CoreStateCases
 use Rattle.model.specs.declared.CoreTicks as Counters
@@ -36,29 +28,23 @@ use Rattle.model.specs.declared.Switch as Switches
 use Rattle.model.specs.declared.SwitchWords.{SwitchWords}
 use Rattle.model.specs.declared.JoinOutcome as JoinOutcomes
 use Rattle.model.specs.declared.JoinOutcome.TheVariants as JoinCases
-use Rattle.model.specs.declared.CallAnswer.{CallAnswer}
-use Rattle.model.specs.declared.CallAnswer.TheVariants as CallCases
-use Rattle.model.specs.declared.SpawnAnswer.{SpawnAnswer}
-use Rattle.model.specs.declared.SpawnAnswer.TheVariants as SpawnCases
-use Rattle.model.specs.declared.JoinAnswer.{JoinAnswer}
-use Rattle.model.specs.declared.JoinAnswer.TheVariants as JoinAnswerCases
 use Rattle.model.specs.Types.{CoreState, Idle, Switching, Running, LeaveReason, Exit, Block, Yield, Quantum, Preempt, Forced, ThreadState, Ready, Exited, OnCore, Blocked, LastLeave, Last, Times, Counts, ThreadRecord, CoreTicks, Lane, IdleLane, SwitchLane, RunLane, Segment}
 use Rattle.model.specs.Types.{EventKind, Spawned, Dispatched, Departed, Woken, Reprioritised, Event, Out, SwitchEntry}
 use Rattle.model.specs.Calls.{JoinOutcome, Wait, Done, Invalid, Answer, refused, ok, spawned, joined, switched}
 
 ---- optional values
 
-abbrev pub option_tid_meant : OptionTid → Option ℕ
-option_tid_meant OptionTidCases.None = none
-option_tid_meant (OptionTidCases.Some t) = some t.0
+abbrev pub option_tid_meant : Std.Option Tid → Option ℕ
+option_tid_meant None = none
+option_tid_meant (Some t) = some t.0
 
-abbrev pub option_core_meant : OptionCore → Option ℕ
-option_core_meant OptionCoreCases.None = none
-option_core_meant (OptionCoreCases.Some i) = some i.0
+abbrev pub option_core_meant : Std.Option CoreId → Option ℕ
+option_core_meant None = none
+option_core_meant (Some i) = some i.0
 
-abbrev pub option_tick_meant : OptionTick → Option ℕ
-option_tick_meant OptionTickCases.None = none
-option_tick_meant (OptionTickCases.Some n) = some n.0
+abbrev pub option_tick_meant : Std.Option Tick → Option ℕ
+option_tick_meant None = none
+option_tick_meant (Some n) = some n.0
 
 ---- cores
 
@@ -97,9 +83,9 @@ thread_state_meant ThreadStateCases.Exited = Exited
 abbrev pub last_leave_meant : LastLeaves.LastLeave → LastLeave
 last_leave_meant leave = record { tick = leave.tick.0; core = leave.core.0; reason = reason_meant leave.reason }
 
-abbrev pub option_leave_meant : OptionLeave → Option LastLeave
-option_leave_meant OptionLeaveCases.None = none
-option_leave_meant (OptionLeaveCases.Some leave) = some (last_leave_meant leave)
+abbrev pub option_leave_meant : Std.Option LastLeaves.LastLeave → Option LastLeave
+option_leave_meant None = none
+option_leave_meant (Some leave) = some (last_leave_meant leave)
 
 abbrev pub times_meant : ThreadStats → Times
 times_meant stats = record { arrival = stats.arrival.0; first_run = option_tick_meant stats.first_run; finish = option_tick_meant stats.finish }
@@ -135,9 +121,9 @@ event_meant event = record { tick = event.tick.0; tid = event.tid.0; kind = even
 
 ---- switch lists
 
-abbrev pub option_out_meant : OptionOut → Option Out
-option_out_meant OptionOutCases.None = none
-option_out_meant (OptionOutCases.Some out) = some (record { tid = out.tid.0; reason = reason_meant out.reason })
+abbrev pub option_out_meant : Std.Option SwitchOut → Option Out
+option_out_meant None = none
+option_out_meant (Some out) = some (record { tid = out.tid.0; reason = reason_meant out.reason })
 
 abbrev pub switch_meant : Switches.Switch → SwitchEntry
 switch_meant e = record { core = e.core.0; out = option_out_meant e.out; inn = option_tid_meant e.inn }
@@ -170,19 +156,19 @@ join_meant JoinCases.Wait = Wait
 join_meant JoinCases.Done = Done
 join_meant JoinCases.Invalid = Invalid
 
-abbrev pub call_answer_meant : CallAnswer → Answer
-call_answer_meant CallCases.Taken = ok
-call_answer_meant (CallCases.Refused refusal) = refused (refusal_number refusal)
+abbrev pub call_answer_meant : Result Unit Refusal → Answer
+call_answer_meant (Ok _) = ok
+call_answer_meant (Err refusal) = refused (refusal_number refusal)
 
-abbrev pub spawn_answer_meant : SpawnAnswer → Answer
-spawn_answer_meant (SpawnCases.Spawned t) = spawned t.0
-spawn_answer_meant (SpawnCases.Refused refusal) = refused (refusal_number refusal)
+abbrev pub spawn_answer_meant : Result Tid Refusal → Answer
+spawn_answer_meant (Ok t) = spawned t.0
+spawn_answer_meant (Err refusal) = refused (refusal_number refusal)
 
-abbrev pub join_answer_meant : JoinAnswer → Answer
-join_answer_meant (JoinAnswerCases.Joined o) = joined (join_meant o)
-join_answer_meant (JoinAnswerCases.Refused refusal) = refused (refusal_number refusal)
+abbrev pub join_answer_meant : Result JoinOutcomes.JoinOutcome Refusal → Answer
+join_answer_meant (Ok o) = joined (join_meant o)
+join_answer_meant (Err refusal) = refused (refusal_number refusal)
 
 -- an answer with a switch list: the list counts where the call is taken
-abbrev pub switch_answer_meant : CallAnswer → List SwitchWords → (count : ℕ) → Answer
-switch_answer_meant CallCases.Taken entries count = switched (switches_meant entries count)
-switch_answer_meant (CallCases.Refused refusal) entries count = refused (refusal_number refusal)
+abbrev pub switch_answer_meant : Result Unit Refusal → List SwitchWords → (count : ℕ) → Answer
+switch_answer_meant (Ok _) entries count = switched (switches_meant entries count)
+switch_answer_meant (Err refusal) entries count = refused (refusal_number refusal)

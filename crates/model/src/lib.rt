@@ -2,38 +2,21 @@
 // lists; specs/Reading.antt says which part of it each value below stands for.
 #![tactic(auto)]
 
-use settings::Refusal;
+pub mod cores;
+pub mod reasons;
 
 // "A thread number, a core number and a tick each count something else, and one may not be given for another."
-#[derive(Clone, Copy)]
+#[derive(Clone, Copy, PartialEq, Eq, Debug)]
 pub struct Tid(pub u32);
 
-#[derive(Clone, Copy)]
+#[derive(Clone, Copy, PartialEq, Eq, Debug)]
 pub struct CoreId(pub u32);
 
-#[derive(Clone, Copy)]
+#[derive(Clone, Copy, PartialEq, Eq, Debug)]
 pub struct Tick(pub u64);
 
-#[derive(Clone, Copy)]
-pub enum OptionTid {
-    None,
-    Some(Tid),
-}
-
-#[derive(Clone, Copy)]
-pub enum OptionCore {
-    None,
-    Some(CoreId),
-}
-
-#[derive(Clone, Copy)]
-pub enum OptionTick {
-    None,
-    Some(Tick),
-}
-
 // "A core is idle, switching (thread, ticks left) or running (thread, slice)."
-#[derive(Clone, Copy)]
+#[derive(Clone, Copy, PartialEq, Eq, Debug)]
 pub enum CoreState {
     Idle,
     Switching { tid: Tid, left: u32 },
@@ -41,7 +24,7 @@ pub enum CoreState {
 }
 
 // One core's three counters. None passes `now`, which fits 32 bits; the state is copied in each call, so they take no more.
-#[derive(Clone, Copy)]
+#[derive(Clone, Copy, PartialEq, Eq, Debug)]
 pub struct CoreTicks {
     pub busy: u32,
     pub switching: u32,
@@ -49,7 +32,7 @@ pub struct CoreTicks {
 }
 
 // What filled a stretch of a core's timeline.
-#[derive(Clone, Copy)]
+#[derive(Clone, Copy, PartialEq, Eq, Debug)]
 pub enum Lane {
     Idle,
     Switch(Tid),
@@ -57,7 +40,7 @@ pub enum Lane {
 }
 
 // A stretch of one core's timeline, ticks start..end.
-#[derive(Clone, Copy)]
+#[derive(Clone, Copy, PartialEq, Eq, Debug)]
 pub struct Segment {
     pub lane: Lane,
     pub start: Tick,
@@ -65,7 +48,7 @@ pub struct Segment {
 }
 
 // Why a thread left its core.
-#[derive(Clone, Copy)]
+#[derive(Clone, Copy, PartialEq, Eq, Debug)]
 pub enum LeaveReason {
     Exit,
     Block,
@@ -76,7 +59,7 @@ pub enum LeaveReason {
 }
 
 // Where a thread is in its life.
-#[derive(Clone, Copy)]
+#[derive(Clone, Copy, PartialEq, Eq, Debug)]
 pub enum ThreadState {
     Ready,
     Running(CoreId),
@@ -85,25 +68,19 @@ pub enum ThreadState {
 }
 
 // When a thread last left a core, which core, and why: a record where the Rust has a tuple.
-#[derive(Clone, Copy)]
+#[derive(Clone, Copy, PartialEq, Eq, Debug)]
 pub struct LastLeave {
     pub tick: Tick,
     pub core: CoreId,
     pub reason: LeaveReason,
 }
 
-#[derive(Clone, Copy)]
-pub enum OptionLeave {
-    None,
-    Some(LastLeave),
-}
-
 // What a thread did with its time.
-#[derive(Clone, Copy)]
+#[derive(Clone, Copy, PartialEq, Eq, Debug)]
 pub struct ThreadStats {
     pub arrival: Tick,
-    pub first_run: OptionTick,
-    pub finish: OptionTick,
+    pub first_run: Option<Tick>,
+    pub finish: Option<Tick>,
     pub run_ticks: u64,
     pub ready_ticks: u64,
     pub blocked_ticks: u64,
@@ -113,29 +90,29 @@ pub struct ThreadStats {
 }
 
 // One thread as the scheduler sees it.
-#[derive(Clone, Copy)]
+#[derive(Clone, Copy, PartialEq, Eq, Debug)]
 pub struct ThreadInfo {
     pub tid: Tid,
-    pub parent: OptionTid,
+    pub parent: Option<Tid>,
     pub entry_pc: u32,
     pub priority: u32,
     pub state: ThreadState,
-    pub last_core: OptionCore,
-    pub last_dispatch: OptionTick,
-    pub last_leave: OptionLeave,
+    pub last_core: Option<CoreId>,
+    pub last_dispatch: Option<Tick>,
+    pub last_leave: Option<LastLeave>,
     pub stats: ThreadStats,
 }
 
-#[derive(Clone, Copy)]
+#[derive(Clone, Copy, PartialEq, Eq, Debug)]
 pub enum SchedEventKind {
-    Spawn { parent: OptionTid },
+    Spawn { parent: Option<Tid> },
     Dispatch { core: CoreId },
     Leave { core: CoreId, reason: LeaveReason },
     Wake,
     Priority { priority: u32 },
 }
 
-#[derive(Clone, Copy)]
+#[derive(Clone, Copy, PartialEq, Eq, Debug)]
 pub struct SchedEvent {
     pub tick: Tick,
     pub tid: Tid,
@@ -143,29 +120,23 @@ pub struct SchedEvent {
 }
 
 // The thread that leaves in a switch entry: a record where the Rust has a tuple.
-#[derive(Clone, Copy)]
+#[derive(Clone, Copy, PartialEq, Eq, Debug)]
 pub struct SwitchOut {
     pub tid: Tid,
     pub reason: LeaveReason,
 }
 
-#[derive(Clone, Copy)]
-pub enum OptionOut {
-    None,
-    Some(SwitchOut),
-}
-
 // "One entry per core touched ..: thread out with reason, thread in."
-#[derive(Clone, Copy)]
+#[derive(Clone, Copy, PartialEq, Eq, Debug)]
 pub struct Switch {
     pub core: CoreId,
-    pub out: OptionOut,
-    pub inn: OptionTid,
+    pub out: Option<SwitchOut>,
+    pub inn: Option<Tid>,
 }
 
 // The same in numbers, as a switch list keeps it: `reason` is 0 where nobody leaves, `taken` where nobody comes. A list is copied in each call, and a copy
 // of an enum moves the bytes behind its tag one by one.
-#[derive(Clone, Copy)]
+#[derive(Clone, Copy, PartialEq, Eq, Debug)]
 pub struct SwitchWords {
     pub core: CoreId,
     pub left: Tid,
@@ -175,28 +146,9 @@ pub struct SwitchWords {
 }
 
 // How a `join` turned out.
-#[derive(Clone, Copy)]
+#[derive(Clone, Copy, PartialEq, Eq, Debug)]
 pub enum JoinOutcome {
     Wait,
     Done,
     Invalid,
-}
-
-// The answers of the calls. Each is what the call says when it is taken, or the refusal.
-#[derive(Clone, Copy)]
-pub enum CallAnswer {
-    Taken,
-    Refused(Refusal),
-}
-
-#[derive(Clone, Copy)]
-pub enum SpawnAnswer {
-    Spawned(Tid),
-    Refused(Refusal),
-}
-
-#[derive(Clone, Copy)]
-pub enum JoinAnswer {
-    Joined(JoinOutcome),
-    Refused(Refusal),
 }
