@@ -2,34 +2,26 @@
 // Its public functions are parts for other crates: no host calls them.
 #![tactic(auto)]
 
-use model::{CoreId, OptionTid, Tid};
-use settings::Refusal;
+use model::{CoreId, Tid};
 
 pub mod calls;
 
 // A call as a script writes it. A thread that is spawned has entry 0.
-#[derive(Clone, Copy)]
+#[derive(Clone, Copy, PartialEq, Eq, Debug)]
 pub enum Command {
-    Spawn(OptionTid),
+    Spawn(Option<Tid>),
     Exit(CoreId),
     Join(CoreId, Tid),
     Retired(CoreId),
     Yield(CoreId),
     Prio(Tid, u32),
-    Force(CoreId, OptionTid),
+    Force(CoreId, Option<Tid>),
     Tick,
     Close(CoreId),
 }
 
-// What a call line says, or why it is refused.
-#[derive(Clone, Copy)]
-pub enum CallRead {
-    Call(Command),
-    Refused(Refusal),
-}
-
 // The keys of the calls.
-#[derive(Clone, Copy)]
+#[derive(Clone, Copy, PartialEq, Eq, Debug)]
 pub enum CallKey {
     Spawn,
     Exit,
@@ -40,5 +32,4 @@ pub enum CallKey {
     Force,
     Tick,
     Close,
-    Unknown,
 }

@@ -1,30 +1,36 @@
 -- Which part of the definition the fields of a value stand for.
-use Rattle.std.specs.Prelude.{ℕ}
+use Rattle.std.specs.Prelude.{ℕ, List, Result, Ok, Err}
+use Rattle.std.specs.Prelude.{Option as Optional}
 use Rattle.std.proofs.Math.Option.{Option}
+use denote.Ref.{Bor}
 use Rattle.text.specs.Lines.{Read, bad, good}
+use Rattle.settings.specs.declared.Refusal.{Refusal}
 use Rattle.settings.specs.Reading.{refusal_number}
+use Rattle.model.specs.declared.Tid.{Tid}
 use Rattle.model.specs.Reading.{option_tid_meant}
-use Rattle.fields.specs.declared.NumberRead as NumberReads
-use Rattle.fields.specs.declared.NumberRead.TheVariants as NumberReadCases
-use Rattle.fields.specs.declared.MaybeRead as MaybeReads
-use Rattle.fields.specs.declared.MaybeRead.TheVariants as MaybeReadCases
-use Rattle.fields.specs.declared.NumbersRead as NumbersReads
-use Rattle.fields.specs.declared.NumbersRead.TheVariants as NumbersReadCases
-use Rattle.fields.specs.declared.NumberMaybeRead as NumberMaybeReads
-use Rattle.fields.specs.declared.NumberMaybeRead.TheVariants as NumberMaybeReadCases
 
-abbrev pub number_read_meant : NumberReads.NumberRead → Read ℕ
-number_read_meant (NumberReadCases.Is n) = good n
-number_read_meant (NumberReadCases.Refused k) = bad (refusal_number k)
+-- a field, and two, as they stand in the value
+abbrev pub field_meant : Result (Bor (List ℕ)) Refusal → Read (List ℕ)
+field_meant (Ok f) = good f.now
+field_meant (Err k) = bad (refusal_number k)
 
-abbrev pub maybe_read_meant : MaybeReads.MaybeRead → Read (Option ℕ)
-maybe_read_meant (MaybeReadCases.Is t) = good (option_tid_meant t)
-maybe_read_meant (MaybeReadCases.Refused k) = bad (refusal_number k)
+abbrev pub fields_meant : Result (Bor (List ℕ) × Bor (List ℕ)) Refusal → Read (List ℕ × List ℕ)
+fields_meant (Ok f) = good (f.0.now, f.1.now)
+fields_meant (Err k) = bad (refusal_number k)
 
-abbrev pub numbers_read_meant : NumbersReads.NumbersRead → Read (ℕ × ℕ)
-numbers_read_meant (NumbersReadCases.Are a b) = good (a, b)
-numbers_read_meant (NumbersReadCases.Refused k) = bad (refusal_number k)
+-- what they say
+abbrev pub number_read_meant : Result ℕ Refusal → Read ℕ
+number_read_meant (Ok n) = good n
+number_read_meant (Err k) = bad (refusal_number k)
 
-abbrev pub number_maybe_read_meant : NumberMaybeReads.NumberMaybeRead → Read (ℕ × Option ℕ)
-number_maybe_read_meant (NumberMaybeReadCases.Are a t) = good (a, option_tid_meant t)
-number_maybe_read_meant (NumberMaybeReadCases.Refused k) = bad (refusal_number k)
+abbrev pub maybe_read_meant : Result (Optional Tid) Refusal → Read (Option ℕ)
+maybe_read_meant (Ok t) = good (option_tid_meant t)
+maybe_read_meant (Err k) = bad (refusal_number k)
+
+abbrev pub numbers_read_meant : Result (ℕ × ℕ) Refusal → Read (ℕ × ℕ)
+numbers_read_meant (Ok p) = good p
+numbers_read_meant (Err k) = bad (refusal_number k)
+
+abbrev pub number_maybe_read_meant : Result (ℕ × Optional Tid) Refusal → Read (ℕ × Option ℕ)
+number_maybe_read_meant (Ok p) = good (p.0, option_tid_meant p.1)
+number_maybe_read_meant (Err k) = bad (refusal_number k)

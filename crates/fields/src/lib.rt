@@ -1,136 +1,82 @@
 // The comma fields of a value. A wrong count of them is 6 before any number is looked at.
 // Its public functions are parts for other crates: no host calls them.
-#![tactic(auto)]
+#![tactic(auto, unfolding(text::specs::Lines::needed, text::specs::Lines::perhaps, text::specs::Lines::or_bad, text::specs::Lines::map_read, text::specs::Lines::both, text::specs::Lines::one, text::specs::Lines::two))]
 
-ghost use Rattle.std.specs.Prelude.{◌≡◌, ◌≤◌, length};
-ghost use Rattle.text.specs.Lines.{fields, needed, perhaps, one, two};
-ghost use Rattle.fields.specs.Fields.{pair_of, pair_at, two_needed, needed_perhaps};
-ghost use Rattle.fields.specs.Reading.{number_read_meant, maybe_read_meant, numbers_read_meant, number_maybe_read_meant};
+ghost use Rattle.std.specs.Prelude.{◌≡◌};
+ghost use Rattle.text.specs.Lines.{good, fields, needed, perhaps, one, two};
+ghost use Rattle.fields.specs.Fields.{two_as_they_are, two_needed, needed_perhaps};
+ghost use Rattle.fields.specs.Reading.{number_read_meant, maybe_read_meant, numbers_read_meant, number_maybe_read_meant, field_meant, fields_meant};
 
-use model::{OptionTid, Tid};
+use model::Tid;
 use settings::Refusal;
-use text::Number;
 use text::lines::comma_at;
 use text::numbers::read_number;
 
-// What one field says, and what two say.
-#[derive(Clone, Copy)]
-pub enum NumberRead {
-    Is(u32),
-    Refused(Refusal),
-}
-
-#[derive(Clone, Copy)]
-pub enum MaybeRead {
-    Is(OptionTid),
-    Refused(Refusal),
-}
-
-#[derive(Clone, Copy)]
-pub enum NumbersRead {
-    Are(u32, u32),
-    Refused(Refusal),
-}
-
-#[derive(Clone, Copy)]
-pub enum NumberMaybeRead {
-    Are(u32, OptionTid),
-    Refused(Refusal),
-}
-
 // A field that has to be a number.
-fn needed_number(f: &[u8]) -> NumberRead
-    ensures { number_read_meant result ≡ needed f.now }
+fn needed_number(field: &[u8]) -> Result<u32, Refusal>
+    ensures { number_read_meant result ≡ needed field.now }
 {
-    match read_number(f) {
-        Number::Unreadable => NumberRead::Refused(Refusal::BadNumber),
-        Number::Is(n) => NumberRead::Is(n),
-    }
+    read_number(field).ok_or(Refusal::BadNumber)
 }
 
 // A field that may be empty.
-fn optional_number(f: &[u8]) -> MaybeRead
-    ensures { maybe_read_meant result ≡ perhaps f.now }
+fn optional_number(field: &[u8]) -> Result<Option<Tid>, Refusal>
+    ensures { maybe_read_meant result ≡ perhaps field.now }
 {
-    if f.len() == 0 {
-        return MaybeRead::Is(OptionTid::None);
+    if field.is_empty() {
+        return Ok(None);
     }
-    match needed_number(f) {
-        NumberRead::Refused(k) => MaybeRead::Refused(k),
-        NumberRead::Is(n) => MaybeRead::Is(OptionTid::Some(Tid(n))),
+    let number = needed_number(field)?;
+    Ok(Some(Tid(number)))
+}
+
+// The value where it is one field.
+fn one_field(v: &[u8]) -> Result<&[u8], Refusal>
+    ensures { field_meant result ≡ one (fields v.now) good }
+{
+    match comma_at(v, 0) {
+        Some(_) => Err(Refusal::BadLine),
+        None => Ok(v),
+    }
+}
+
+// The two fields of a value with just one comma.
+fn two_fields(v: &[u8]) -> Result<(&[u8], &[u8]), Refusal>
+    ensures { fields_meant result ≡ two (fields v.now) two_as_they_are }
+{
+    let comma = comma_at(v, 0).ok_or(Refusal::BadLine)?;
+    match comma_at(v, comma + 1) {
+        Some(_) => Err(Refusal::BadLine),
+        None => Ok((&v[..comma], &v[comma + 1..])),
     }
 }
 
 // One field, a number.
-pub fn one_number(v: &[u8]) -> NumberRead
+pub fn one_number(v: &[u8]) -> Result<u32, Refusal>
     ensures { number_read_meant result ≡ one (fields v.now) needed }
 {
-    let p = comma_at(v, 0);
-    if p < v.len() {
-        return NumberRead::Refused(Refusal::BadLine);
-    }
-    needed_number(v)
+    needed_number(one_field(v)?)
 }
 
 // One field, which may be empty.
-pub fn one_maybe(v: &[u8]) -> MaybeRead
+pub fn one_maybe(v: &[u8]) -> Result<Option<Tid>, Refusal>
     ensures { maybe_read_meant result ≡ one (fields v.now) perhaps }
 {
-    let p = comma_at(v, 0);
-    if p < v.len() {
-        return MaybeRead::Refused(Refusal::BadLine);
-    }
-    optional_number(v)
-}
-
-// The place of the comma where there is just one, and the length where there are none or more.
-fn only_comma(v: &[u8]) -> usize
-    ensures { (result ≤ length v.now) × (pair_of (fields v.now) ≡ pair_at result v.now) }
-{
-    let n = v.len();
-    let p = comma_at(v, 0);
-    if p == n {
-        return n;
-    }
-    let q = comma_at(v, p + 1);
-    if q < n {
-        return n;
-    }
-    p
+    optional_number(one_field(v)?)
 }
 
 // Two fields, both numbers.
-pub fn two_numbers(v: &[u8]) -> NumbersRead
+pub fn two_numbers(v: &[u8]) -> Result<(u32, u32), Refusal>
     ensures { numbers_read_meant result ≡ two (fields v.now) two_needed }
 {
-    let p = only_comma(v);
-    if p == v.len() {
-        return NumbersRead::Refused(Refusal::BadLine);
-    }
-    let from = p + 1;
-    match needed_number(&v[..p]) {
-        NumberRead::Refused(k) => NumbersRead::Refused(k),
-        NumberRead::Is(a) => match needed_number(&v[from..]) {
-            NumberRead::Refused(k) => NumbersRead::Refused(k),
-            NumberRead::Is(b) => NumbersRead::Are(a, b),
-        },
-    }
+    let (first, second) = two_fields(v)?;
+    Ok((needed_number(first)?, needed_number(second)?))
 }
 
 // Two fields, a number and one that may be empty.
-pub fn number_and_maybe(v: &[u8]) -> NumberMaybeRead
+pub fn number_and_maybe(v: &[u8]) -> Result<(u32, Option<Tid>), Refusal>
     ensures { number_maybe_read_meant result ≡ two (fields v.now) needed_perhaps }
 {
-    let p = only_comma(v);
-    if p == v.len() {
-        return NumberMaybeRead::Refused(Refusal::BadLine);
-    }
-    let from = p + 1;
-    match needed_number(&v[..p]) {
-        NumberRead::Refused(k) => NumberMaybeRead::Refused(k),
-        NumberRead::Is(a) => match optional_number(&v[from..]) {
-            MaybeRead::Refused(k) => NumberMaybeRead::Refused(k),
-            MaybeRead::Is(b) => NumberMaybeRead::Are(a, b),
-        },
-    }
+    let (first, second) = two_fields(v)?;
+    Ok((needed_number(first)?, optional_number(second)?))
 }

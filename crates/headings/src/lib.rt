@@ -3,14 +3,13 @@
 #![tactic(auto)]
 
 use rcfg::Head;
-use settings::{Refusal, SchedConfig};
+use settings::SchedConfig;
 
-pub mod heading;
+pub mod reading;
 
 // What a line up to `cores=` makes of the lines before it.
-#[derive(Clone, Copy)]
-pub enum HeadingRead {
+#[derive(Clone, Copy, PartialEq, Eq, Debug)]
+pub enum Heading {
     More(Head),
     Done { config: SchedConfig, cores: u32 },
-    Refused(Refusal),
 }

@@ -1,4 +1,3 @@
 -- Laws of the settings' text.
 pub mod RoundTrip
 pub mod Settling
-pub mod Laying

@@ -1,19 +1,25 @@
 -- 01: "settings inside the limits below read back equal".
-use Prim.Native.Nat.{ℕ, zero, suc, ◌+◌, ◌≤◌, ◌<◌, ◌^◌}
+use Prim.Native.Nat.{ℕ, suc, ◌+◌, ◌≤◌}
 use Prim.Native.String.{String}
 use mathlib.Core.Path.{◌≡◌, refl, sym, ap, ◌∙◌}
-use mathlib.Core.Bool.{Bool, true, false, cond}
-use mathlib.Core.Option.{Option, none, some}
+use mathlib.Core.Bool.{true, false}
+use mathlib.Core.Option.{some}
 use mathlib.Core.List.{List, [], ◌∷◌, ◌++◌, append-nil}
 use native.Mathlib.Omega.{arith}
-use borrow.Author.Tests.{le-ltb}
-use lib.Dec.{ltb}
+use borrow.Author.Tests.{le-leb, le-ltb}
 use lib.ListN.{length}
 use Rattle.settings.specs.Policy.{Policy, Off, Fifo, RoundRobin, Priority}
 use Rattle.settings.specs.Policy.{beyond}
 use Rattle.text.specs.Bytes.{ascii, all, decimal, lookup}
-use Rattle.text.specs.Lines.{Read, bad, good, or_bad, map_read, cut, line_of, value, key_in, needed, commas, written}
-use Rattle.settings.specs.Settings.{Settings, Within, defaults, policy_of, ranged, HeadKey, PolicyKey, QuantumKey, CostKey, head_keys, Head, none_yet, in_order, setting, setting_line, Settled, settled, setting_piece, settle, from_rcfg, policy_word, to_rcfg}
+use Rattle.text.specs.Lines.{good, or_bad, map_read, cut, line_of, commas, written}
+use Rattle.settings.specs.Settings.{Settings, Within, policy_of, ranged, PolicyKey, QuantumKey, CostKey, head_keys, Head, none_yet, in_order, setting, setting_line, settled, setting_piece, settle, from_rcfg, policy_word, to_rcfg}
+use Rattle.std.specs.Prelude.{Result, Ok, Err}
+use Rattle.settings.specs.declared.SchedPolicy.{SchedPolicy}
+use Rattle.settings.specs.declared.SchedConfig.{SchedConfig}
+use Rattle.settings.specs.Reading.{policy_meant, settings_meant}
+use Rattle.rcfg.specs.declared.RefusedLine.{RefusedLine}
+use Rattle.rcfg.specs.Reading.{settled_meant}
+use Rattle.settings.specs.Buffers.{written_and_read}
 use Rattle.text.proofs.Decimal.{decimal-length}
 use Rattle.text.proofs.Pieces.{visible, isnt, cut-nil, key-line, value_line, cut-written, line-written, decimal-visible, needed-decimal}
 
@@ -40,11 +46,11 @@ policy-visible Fifo = refl
 policy-visible RoundRobin = refl
 policy-visible Priority = refl
 
-pub policy-short : (p : Policy) → length (policy_word p) ≤ 8
-policy-short Off = omega arith
-policy-short Fifo = omega arith
-policy-short RoundRobin = omega arith
-policy-short Priority = omega arith
+pub policy_short : (p : Policy) → length (policy_word p) ≤ 8
+policy_short Off = omega arith
+policy_short Fifo = omega arith
+policy_short RoundRobin = omega arith
+policy_short Priority = omega arith
 
 -- a line read, the rest follows
 pub settle_step : (n : ℕ) (h h' : Head) (l : List ℕ) (ls : List (List ℕ)) → setting_piece h (line_of l) ≡ good h' → settle n h (l ∷ ls) ≡ settle (suc n) h' ls
@@ -87,7 +93,7 @@ module _ (s : Settings) (w : Within s) where
 
   read1 : setting_piece none_yet (line_of line1) ≡ good (record { settings = record { policy = s.policy; quantum = 50; cost = 0 }; past = 1 })
   unfolding line1
-  read1 = setting-written "sched" (policy_word s.policy) refl refl (policy-visible s.policy) (omega (arith, policy-short s.policy)) none_yet ∙ set-policy s.policy
+  read1 = setting-written "sched" (policy_word s.policy) refl refl (policy-visible s.policy) (omega (arith, policy_short s.policy)) none_yet ∙ set-policy s.policy
 
   read2 : setting_piece (record { settings = record { policy = s.policy; quantum = 50; cost = 0 }; past = 1 }) (line_of line2) ≡ good (record { settings = record { policy = s.policy; quantum = s.quantum; cost = 0 }; past = 2 })
   unfolding line2
@@ -109,3 +115,25 @@ module _ (s : Settings) (w : Within s) where
       settle_step 2 _ _ line2 _ read2 ∙
       settle_step 3 _ _ line3 _ read3 ∙
       settle-nil 4 _
+
+---- through a buffer
+
+pub read_back : (s : Settings) (b : List ℕ) → Within s → length (to_rcfg s) ≤ length b → written_and_read s b ≡ settled s
+unfolding written_and_read
+read_back s b w h = rw (le-leb (length (to_rcfg s)) (length b) h) (round_trip s w)
+
+---- the program's settings from the definition's
+
+policy_same : (p q : SchedPolicy) → policy_meant p ≡ policy_meant q → p ≡ q
+policy_same p q e = grind arith
+
+config_same : (c d : SchedConfig) → settings_meant c ≡ settings_meant d → c ≡ d
+config_same c d e =
+    let p = policy_same c.policy d.policy (ap (λ (s : Settings). s.policy) e) in
+    ap (λ (p : SchedPolicy). record { policy = p; quantum = c.quantum; switch_cost = c.switch_cost }) p ∙
+    ap (λ (s : Settings). record { policy = d.policy; quantum = s.quantum; switch_cost = s.cost }) e
+
+-- settings within the limits read back equal
+pub settled_same : (r : Result SchedConfig RefusedLine) (c : SchedConfig) → settled_meant r ≡ settled (settings_meant c) → r ≡ Ok c
+settled_same (Ok d) c e = ap (λ (x : SchedConfig). Ok x) (config_same d c cc)
+settled_same (Err k) c e = absurd (let z : ◌≡◌ {A = ℕ} 0 1 = cc in omega arith)

@@ -1,6 +1,6 @@
 -- Cases computed from the definition: 01's worked example, its table of starred cases, one case for each refusal of the reader, and the readings
 -- of sentences that could be read two ways.
-use Rattle.std.specs.Prelude.{ℕ, zero, suc, ◌≡◌, refl, Bool, true, false, ◌&&◌, List, [], ◌∷◌, ◌++◌, eqb, length, take, replicate}
+use Rattle.std.specs.Prelude.{ℕ, zero, suc, ◌≡◌, refl, Bool, true, false, ◌&&◌, List, [], ◌∷◌, ◌++◌, eqb, length, take, replicate, None}
 use Prim.Native.String.{String}
 use Rattle.std.proofs.Math.Option.{Option, none, some}
 use Rattle.model.specs.Types.{Policy, Off, Fifo, RoundRobin, Priority}

@@ -2,13 +2,13 @@
 // byte 10, and then its bytes. What each case reads as is printed, and settings are written, refused a short buffer and read back.
 #![tactic(auto)]
 
+use rcfg::RefusedLine;
 use rcfg::reading::from_rcfg;
 use rcfg::writing::{to_rcfg, write_and_read};
-use rcfg::{Settled, Written};
-use settings::{Refusal, SchedConfig, SchedPolicy};
+use settings::SchedConfig;
 use text::lines::piece_end;
 use text::numbers::read_number;
-use text::{Number, STDIN_FILENO, STDOUT_FILENO};
+use text::{STDIN_FILENO, STDOUT_FILENO};
 
 fn main() {
     let mut input = io::large_buffer();
@@ -18,35 +18,29 @@ fn main() {
 
 // Stops where a length is no number or goes beyond the input.
 fn run_cases(input: &[u8]) {
-    let mut at = 0;
+    let mut rest = input;
     let mut case: u64 = 0;
-    while at < input.len() {
-        let body = piece_end(input, at);
-        let digits = body - 1;
-        match read_number(&input[at..digits]) {
-            Number::Unreadable => {
-                print(b"unreadable\n");
-                return;
-            }
-            Number::Is(n) => {
-                let len = n as usize;
-                if input.len() - body < len {
-                    print(b"short\n");
-                    return;
-                }
-                at = body + len;
-            }
-        }
+    while !rest.is_empty() {
+        let (line, behind) = rest.split_at(piece_end(rest, 0));
+        let Some(len) = read_number(&line[..line.len() - 1]) else {
+            print(b"unreadable\n");
+            return;
+        };
+        let Some((text, next)) = behind.split_at_checked(len as usize) else {
+            print(b"short\n");
+            return;
+        };
         case += 1;
         print_number(b"case=", case);
-        run_case(&input[body..at]);
+        run_case(text);
+        rest = next;
     }
 }
 
 fn run_case(text: &[u8]) {
     match from_rcfg(text) {
-        Settled::Refused { line, refusal } => print_refused(line, refusal),
-        Settled::Config(c) => {
+        Err(line) => print_refused(line),
+        Ok(c) => {
             print_settings(b"settings=", c);
             print_written(c);
             print_short(c);
@@ -55,11 +49,12 @@ fn run_case(text: &[u8]) {
     }
 }
 
+#[tactic(auto, unfolding(settings::specs::Buffers::to_rcfg_in, text::specs::Buffers::laid))]
 fn print_written(c: SchedConfig) {
     let mut out = [0u8; 69];
     match to_rcfg(c, &mut out) {
-        Written::Count(n) => print(&out[..n]),
-        Written::Refused(k) => print_number(b"refused=", k.number()),
+        Ok(n) => print(&out[..n]),
+        Err(refusal) => print_number(b"refused=", refusal.number()),
     }
 }
 
@@ -67,41 +62,33 @@ fn print_written(c: SchedConfig) {
 fn print_short(c: SchedConfig) {
     let mut out = [0u8; 44];
     match to_rcfg(c, &mut out) {
-        Written::Count(n) => print_number(b"count=", n as u64),
-        Written::Refused(k) => print_number(b"short=", k.number()),
+        Ok(n) => print_number(b"count=", n as u64),
+        Err(refusal) => print_number(b"short=", refusal.number()),
     }
 }
 
 fn print_back(c: SchedConfig) {
     let mut out = [0u8; 69];
     match write_and_read(c, &mut out) {
-        Settled::Config(d) => print_settings(b"back=", d),
-        Settled::Refused { line, refusal } => print_refused(line, refusal),
+        Ok(d) => print_settings(b"back=", d),
+        Err(line) => print_refused(line),
     }
 }
 
 fn print_settings(key: &[u8], c: SchedConfig) {
-    let policy = c.policy;
     print(key);
-    print_label(policy);
-    print_flag(policy.is_enabled());
-    print_flag(policy.is_preemptive());
+    print(c.policy.label().as_bytes());
+    print_flag(c.policy.is_enabled());
+    print_flag(c.policy.is_preemptive());
     print(b",");
-    io::print_decimal(STDOUT_FILENO, c.quantum as u64);
-    print_number(b",", c.switch_cost as u64);
+    io::print_decimal(STDOUT_FILENO, c.quantum.into());
+    print_number(b",", c.switch_cost.into());
 }
 
-fn print_refused(line: u64, refusal: Refusal) {
+fn print_refused(r: RefusedLine) {
     print(b"refused=");
-    io::print_decimal(STDOUT_FILENO, line);
-    print_number(b",", refusal.number());
-}
-
-fn print_label(policy: SchedPolicy) {
-    let w = policy.label();
-    let bytes = w.bytes;
-    let n = w.len;
-    print(&bytes[..n]);
+    io::print_decimal(STDOUT_FILENO, r.line);
+    print_number(b",", r.refusal.number());
 }
 
 fn print_flag(b: bool) {

@@ -1,38 +1,16 @@
--- a line by the place of its first `=`
-use native.Mathlib.Omega.{arith}
-use Prim.Native.Nat.{ℕ, ◌+◌, ◌-◌, ◌<◌, ◌≤◌}
-use mathlib.Core.Path.{◌≡◌, sym, ap, ◌∙◌}
-use mathlib.Core.Option.{Option}
-use mathlib.Core.List.{List}
-use lib.ListN.{length, take, drop, length-drop}
-use lib.Seq.{length-take-le, take_all}
-use Rattle.text.specs.Bytes.{lookup}
-use Rattle.text.specs.Lines.{Read, bad, before_eq, after_eq, trim, value}
-use Rattle.text.specs.Searches.{key_up_to}
-use Rattle.text.proofs.Found.{key-missing, key-there}
-use Rattle.model.specs.Calls.{Call}
-use Rattle.script.specs.Script.{CallKey, call_keys, calling, call_line}
+use Rattle.std.proofs.Common.{◌≡◌, Some, None, arith}
+use Rattle.commands.proofs.Saying.{no_key, keyed}
 use Rattle.commands.proofs.calls.read_call.Goals as goal
 
-module _ (l : List ℕ) (p : ℕ) (key : before_eq l ≡ key_up_to p l) where
-  no_key : length l ≤ p → bad 6 ≡ call_line l
-  unfolding call_line calling
-  no_key h = rw (key-missing call_keys l p key h)
-
-  keyed :
-      p < length l → after_eq l ≡ drop (p + 1) l → (k : Option CallKey) (v : List ℕ) (r : Read Call) → r ≡ calling k v → k ≡ lookup (take p l) call_keys
-      → v ≡ trim (take (length l - (p + 1)) (drop (p + 1) l)) → r ≡ call_line l
-  unfolding call_line value
-  keyed h after k v r e ek ev =
-      let whole : take (length l - (p + 1)) (drop (p + 1) l) ≡ drop (p + 1) l = take_all (length l - (p + 1)) (drop (p + 1) l) (rw length-drop (omega arith)) in
-      e ∙ ap (λ (x : Option CallKey). calling x v) (ek ∙ sym (key-there call_keys l p key h)) ∙ ap (calling _) (ev ∙ ap trim (whole ∙ sym after))
-
-pub returns-then-p-line : goal.returns-then-p-line
-returns-then-p-line c = no_key c.args.line.now c.equals_at-p.result c.equals_at-p.ensures.1 (omega arith)
-
-pub slice_bounds-call_key-end : goal.slice_bounds-call_key-end
-slice_bounds-call_key-end c = sym (length-take-le _ _ c.equals_at-p.ensures.0)
+pub returns-in_err-end : goal.returns-in_err-end
+returns-in_err-end c =
+    let none : c.equals_at.result ≡ None = grind arith in
+    let place = rw none at c.equals_at.ensures.place in
+    let wrong = no_key c.args.line.now _ place.1 (omega arith) in
+    grind arith
 
 pub returns : goal.returns
 returns c =
-    keyed c.args.line.now c.equals_at-p.result c.equals_at-p.ensures.1 (omega (arith, c.equals_at-p.ensures.0, c.if-p-line.false)) c.equals_at-p.ensures.2 _ c.trimmed.result.now _ c.call_of.ensures c.call_key.ensures c.trimmed.ensures
+    let some : c.equals_at.result ≡ Some c.in_ok-end.end = grind arith in
+    let place = rw some at c.equals_at.ensures.place in
+    keyed c.args.line.now _ place.1 (rw some at c.equals_at.ensures.found) place.2 _ _ _ c.call_of.ensures c.call_key.ensures c.trimmed.ensures

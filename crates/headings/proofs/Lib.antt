@@ -1,2 +1,0 @@
--- What a line up to `cores=` says.
-pub mod Cores
