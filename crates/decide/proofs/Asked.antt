@@ -1,7 +1,7 @@
--- The place that `forced_place` finds, in the words of the call: who takes the core, and whether the call is refused.
+-- The place that `place_asked` finds, in the words of the call: who takes the core, and whether the call is refused.
 -- Assumes nothing.
 use Prim.Native.Nat.{ℕ, ◌≤◌, ◌<◌}
-use mathlib.Core.Path.{◌≡◌, refl, sym}
+use mathlib.Core.Path.{◌≡◌, sym}
 use mathlib.Core.Option.{Option, none, some}
 use lib.ListN.{length, get_or}
 use Rattle.model.specs.Types.{State}

@@ -1,16 +1,15 @@
 -- A forced switch: the core, the queue and the moves.
 -- Assumes nothing.
-use Prim.Native.Nat.{ℕ, ◌+◌, ◌<◌}
+use Prim.Native.Nat.{ℕ, ◌<◌}
 use mathlib.Core.Path.{◌≡◌, refl, sym, ap, ◌∙◌}
-use mathlib.Core.Bool.{Bool, true, false}
+use mathlib.Core.Bool.{Bool, false}
 use mathlib.Core.Option.{Option}
 use mathlib.Core.List.{List, [], ◌∷◌, ◌++◌, append-nil}
-use native.Mathlib.Omega.{arith}
 use lib.ListN.{length, get_or, set}
 use lib.Seq.{get_or-set_same, get_or-set_other}
-use Rattle.model.specs.Types.{CoreState, Idle, Switching, Running, Forced, Core, Move, leaves}
+use Rattle.model.specs.Types.{CoreState, Idle, Running, Forced, Core, Move, leaves}
 use Rattle.model.specs.Phases.{update, without, dispatched_state}
-use Rattle.model.specs.Calls.{is_switching, out_of, back_of, forced_core}
+use Rattle.model.specs.Calls.{out_of, back_of, forced_core}
 use Rattle.model.specs.Reading.{core_state_meant}
 use Rattle.model.specs.declared.CoreState as Program
 use Rattle.model.specs.declared.CoreState.TheVariants
@@ -36,13 +35,6 @@ running-queue x t s q q' e eq = rw e eq
 pub running-moves : (x : CoreState) (t s i : ℕ) (l m m' : List Move) → x ≡ Running t s → m' ≡ m ++ (leaves t i Forced ∷ l) → m' ≡ m ++ (out_of i x ++ l)
 unfolding out_of
 running-moves x t s i l m m' e em = rw e em
-
--- a core that is switching is not forced
-pub not-switching : {P : Type 0} (x : CoreState) (t l : ℕ) → x ≡ Switching t l → is_switching x ≡ false → P
-not-switching x t l e h =
-    let z : true ≡ false = sym (ap is_switching e) ∙ h in
-    let y : ◌≡◌ {A = ℕ} 0 1 = cc in
-    absurd (omega arith)
 
 module _
     (cs : List Program.CoreState) (ex bl yi pr pr' : List Bool) (i cost t : ℕ) (r : Program.CoreState) (h : i < length cs)

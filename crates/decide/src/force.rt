@@ -1,34 +1,35 @@
 // A forced switch.
-ghost use Rattle.std.specs.Prelude.{◌≡◌, false, ◌++◌, ℕ, ◌+◌, ◌<◌, ◌≤◌, length, take, get_or, set};
+ghost use Rattle.std.specs.Prelude.{◌≡◌, false, ◌++◌, ℕ, ◌+◌, ◌<◌, ◌≤◌, length, get_or, set};
 ghost use Rattle.std.proofs.Math.Option.{Option};
 ghost use Rattle.settings.specs.Reading.{policy_meant};
 ghost use Rattle.model.specs.Phases.{update, without, dispatched_state, dispatch_moves};
 ghost use Rattle.model.specs.Calls.{is_switching, out_of, back_of, forced_core};
 ghost use Rattle.model.specs.Reading.{core_state_meant, option_tid_meant};
 ghost use Rattle.model.specs.declared.CoreState.TheVariants;
-ghost use Rattle.queue.specs.Words.{moves_in, Appended, NoLonger};
-ghost use Rattle.queue.specs.Ready.{Picked, prio_of, remove_at};
-ghost use Rattle.phases.specs.Cores.{firsts, core_at};
+ghost use Rattle.queue.specs.Words.{made, Appended, NoLonger, StillLent};
+ghost use Rattle.queue.specs.Ready.{waiting, Picked, Chosen, prio_of, remove_at};
+ghost use Rattle.phases.specs.Cores.{firsts, board};
 ghost use Rattle.decide.specs.Forced.{asked};
 
-use model::{CoreId, CoreState, LeaveReason, OptionTid};
+use model::{CoreId, CoreState, LeaveReason, Tid};
+use queue::moves::Moves;
+use queue::ready::ReadyQueue;
 use queue::{pick, ready};
 use settings::SchedPolicy;
+use turns::Marks;
 
-// The place of the thread that takes a forced core: the one that is named, or the next; n, or behind it, where it is not there or nobody waits.
-pub fn forced_place(
+// The place of the thread that takes a forced core: the one that is named, or the next.
+pub fn place_asked(
     policy: SchedPolicy,
     prios: &[u32],
-    queue: &[u32],
-    n: usize,
-    named: OptionTid,
-) -> usize
-    requires { n ≤ length queue.now }
-    ensures { Picked (asked (policy_meant policy) (prio_of prios.now) (option_tid_meant named) (take n queue.now)) (take n queue.now) result }
+    waiting: &[u32],
+    named: Option<Tid>,
+) -> Option<usize>
+    ensures { Chosen (asked (policy_meant policy) (prio_of prios.now) (option_tid_meant named) waiting.now) waiting.now result }
 {
     match named {
-        OptionTid::None => pick::pick_next(policy, prios, queue, n, 4294967295),
-        OptionTid::Some(tid) => ready::position(queue, n, tid),
+        None => pick::pick_next(policy, prios, waiting, 4294967295),
+        Some(tid) => ready::position(waiting, tid),
     }
 }
 
@@ -39,26 +40,26 @@ pub fn take_over(
     at: usize,
     cost: u32,
     progressed: &mut [bool; 8],
-    queue: &mut [u32],
-    len: &mut usize,
-    out: &mut [u64],
-    count: &mut usize,
+    queue: &mut ReadyQueue,
+    moves: &mut Moves,
 ) -> CoreState
-    requires { (core.0 < 8) × (is_switching (core_state_meant s) ≡ false) × (at < len.old) × (len.old ≤ length queue.old) × (count.old + 3 ≤ length out.old) }
-    ensures state { core_state_meant result ≡ dispatched_state cost (get_or (take len.old queue.old) at 0) }
+    requires { (core.0 < 8) × (is_switching (core_state_meant s) ≡ false) × (at < queue.old.len) × (queue.old.len ≤ length queue.old.words.now) × (moves.old.count + 3 ≤ length moves.old.words.now) }
+    ensures state { core_state_meant result ≡ dispatched_state cost (get_or (waiting queue.old) at 0) }
     ensures mark { progressed.new ≡ set progressed.old core.0 false }
-    ensures left { take len.new queue.new ≡ remove_at at (take len.old queue.old) ++ back_of (core_state_meant s) }
-    ensures moves { moves_in out.new count.new ≡ moves_in out.old count.old ++ (out_of core.0 (core_state_meant s) ++ dispatch_moves cost (get_or (take len.old queue.old) at 0) core.0) }
-    ensures queue { NoLonger len.old len.new queue.old queue.new }
-    ensures out { Appended 3 count.old count.new out.old out.new }
+    ensures left { waiting queue.new ≡ remove_at at (waiting queue.old) ++ back_of (core_state_meant s) }
+    ensures moves { made moves.new ≡ made moves.old ++ (out_of core.0 (core_state_meant s) ++ dispatch_moves cost (get_or (waiting queue.old) at 0) core.0) }
+    ensures queue { NoLonger queue.old.len queue.new.len queue.old.words.now queue.new.words.now }
+    ensures out { Appended 3 moves.old.count moves.new.count moves.old.words.now moves.new.words.now }
+    ensures lent { StillLent queue.old.words queue.new.words }
+    ensures lent_moves { StillLent moves.old.words moves.new.words }
 {
     match s {
         CoreState::Idle => {
-            let next = ready::take_at(queue, len, at);
-            dispatch::dispatch(core, next, cost, progressed, out, count)
+            let next = queue.take_at(at);
+            dispatch::dispatch(core, next, cost, progressed, moves)
         }
-        CoreState::Switching { tid: _, left: _ } => s,
-        CoreState::Running { tid, slice: _ } => dispatch::swap(
+        CoreState::Switching { .. } => s,
+        CoreState::Running { tid, .. } => dispatch::swap(
             core,
             tid,
             LeaveReason::Forced,
@@ -66,44 +67,45 @@ pub fn take_over(
             cost,
             progressed,
             queue,
-            len,
-            out,
-            count,
+            moves,
         ),
     }
 }
 
-// What `force_switch` decides: the core's marks go, and it takes the thread at a place of the queue. The moves stand in the front of `out`.
-pub fn force_on(
+// What `force_switch` decides: the core's marks go, and it takes the thread at a place of the queue. The moves stand in the front of the lent words.
+pub fn force_core(
     cores: [CoreState; 8],
     core: CoreId,
     at: usize,
     cost: u32,
-    exits: &mut [bool; 8],
-    blocks: &mut [bool; 8],
-    yields: &mut [bool; 8],
-    progressed: &mut [bool; 8],
-    queue: &mut [u32],
-    len: &mut usize,
-    out: &mut [u64],
-    count: &mut usize,
+    marks: &mut Marks,
+    queue: &mut ReadyQueue,
+    moves: &mut Moves,
 ) -> [CoreState; 8]
-    requires { (core.0 < 8) × (is_switching (core_state_meant (get_or cores core.0 TheVariants.Idle)) ≡ false) × (at < len.old) × (len.old ≤ length queue.old) × (3 ≤ length out.old) }
-    ensures cores { (n : ℕ) → core.0 < n → firsts (core_at result exits.new blocks.new yields.new progressed.new) n ≡ update core.0 (forced_core cost (get_or (take len.old queue.old) at 0)) (firsts (core_at cores exits.old blocks.old yields.old progressed.old) n) }
-    ensures others { (j : ℕ) → (j ≡ core.0 → ⊥) → core_at result exits.new blocks.new yields.new progressed.new j ≡ core_at cores exits.old blocks.old yields.old progressed.old j }
-    ensures left { (who : Option ℕ) → Picked who (take len.old queue.old) at → take len.new queue.new ≡ without (get_or (take len.old queue.old) at 0) (take len.old queue.old ++ back_of (core_state_meant (get_or cores core.0 TheVariants.Idle))) }
-    ensures moves { moves_in out.new count.new ≡ out_of core.0 (core_state_meant (get_or cores core.0 TheVariants.Idle)) ++ dispatch_moves cost (get_or (take len.old queue.old) at 0) core.0 }
-    ensures queue { NoLonger len.old len.new queue.old queue.new }
-    ensures out { Appended 3 0 count.new out.old out.new }
+    requires { (core.0 < 8) × (is_switching (core_state_meant (get_or cores core.0 TheVariants.Idle)) ≡ false) × (at < queue.old.len) × (queue.old.len ≤ length queue.old.words.now) × (3 ≤ length moves.old.words.now) }
+    ensures cores { (n : ℕ) → core.0 < n → firsts (board result marks.new) n ≡ update core.0 (forced_core cost (get_or (waiting queue.old) at 0)) (firsts (board cores marks.old) n) }
+    ensures others { (j : ℕ) → (j ≡ core.0 → ⊥) → board result marks.new j ≡ board cores marks.old j }
+    ensures left { (who : Option ℕ) → Picked who (waiting queue.old) at → waiting queue.new ≡ without (get_or (waiting queue.old) at 0) (waiting queue.old ++ back_of (core_state_meant (get_or cores core.0 TheVariants.Idle))) }
+    ensures moves { made moves.new ≡ out_of core.0 (core_state_meant (get_or cores core.0 TheVariants.Idle)) ++ dispatch_moves cost (get_or (waiting queue.old) at 0) core.0 }
+    ensures queue { NoLonger queue.old.len queue.new.len queue.old.words.now queue.new.words.now }
+    ensures out { Appended 3 0 moves.new.count moves.old.words.now moves.new.words.now }
+    ensures lent { StillLent queue.old.words queue.new.words }
+    ensures lent_moves { StillLent moves.old.words moves.new.words }
 {
-    *count = 0;
+    moves.count = 0;
     let i = core.0 as usize;
-    exits[i] = false;
-    blocks[i] = false;
-    yields[i] = false;
+    marks.exits[i] = false;
+    marks.blocks[i] = false;
+    marks.yields[i] = false;
     let mut cs = cores;
-    let s = cs[i];
-    let t = take_over(s, core, at, cost, progressed, queue, len, out, count);
-    cs[i] = t;
+    cs[i] = take_over(
+        cores[i],
+        core,
+        at,
+        cost,
+        &mut marks.progressed,
+        queue,
+        moves,
+    );
     cs
 }

@@ -1,6 +1,6 @@
 -- What a core's change of threads does.
 use Rattle.std.specs.Prelude.{ℕ, ◌≡◌, Bool, true, false, cond, List, [], ◌∷◌, ◌++◌, get_or, set}
-use Rattle.model.specs.Types.{CoreState, Idle, Switching, Running, LeaveReason, Exit, Block, Yield, Quantum, Preempt, Forced, Move, leaves}
+use Rattle.model.specs.Types.{CoreState, LeaveReason, Exit, Block, Yield, Quantum, Preempt, Forced, Move, leaves}
 use Rattle.model.specs.Phases.{dispatched_state, dispatch_moves}
 use Rattle.queue.specs.Ready.{remove_at}
 
@@ -22,9 +22,3 @@ pub record Swapped (t : ℕ) (reason : LeaveReason) (i k cost : ℕ) (pr pr' : L
   pub mark : pr' ≡ set pr i false
   pub queue : q' ≡ remove_at k q ++ (t ∷ [])
   pub moves : m' ≡ m ++ (leaves t i reason ∷ dispatch_moves cost (get_or q k 0) i)
-
--- the thread on a core; 0 where none is
-abbrev pub tid_in : CoreState → ℕ
-tid_in Idle = 0
-tid_in (Switching t l) = t
-tid_in (Running t s) = t

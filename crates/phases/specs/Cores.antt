@@ -6,6 +6,7 @@ use Rattle.model.specs.declared.CoreState as Program
 use Rattle.model.specs.declared.CoreState.TheVariants
 use Rattle.queue.specs.Words.{moves_in}
 use Rattle.turns.specs.Turns.{core_of}
+use Rattle.turns.specs.declared.Marks.{Marks}
 
 -- the first n values of a function, in order
 unfoldable pub firsts {ℓ} : {A : Type ℓ} → (ℕ → A) → ℕ → List A
@@ -15,6 +16,9 @@ firsts g (suc n) = firsts g n ++ (g n ∷ [])
 -- core i, from the arrays
 unfoldable pub core_at : List Program.CoreState → (exits blocks yields progressed : List Bool) → ℕ → Core
 core_at cs ex bl yi pr i = core_of (get_or cs i TheVariants.Idle) (get_or ex i false) (get_or bl i false) (get_or yi i false) (get_or pr i false)
+
+abbrev pub board : List Program.CoreState → Marks → ℕ → Core
+board cs m = core_at cs m.exits m.blocks m.yields m.progressed
 
 -- all that a phase sees and changes: n cores, the queue, the moves so far
 unfoldable pub pass_of : ℕ → (ℕ → Core) → List ℕ → List Move → Pass

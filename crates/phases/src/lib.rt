@@ -3,19 +3,20 @@
 // Its public functions are parts for other crates: no host calls them.
 #![tactic(auto)]
 
-ghost use Rattle.std.specs.Prelude.{Bool, List, ℕ, ◌+◌, ◌*◌, ◌<◌, ◌≤◌, length, get_or, take};
+ghost use Rattle.std.specs.Prelude.{◌≡◌, Bool, List, ℕ, ◌+◌, ◌*◌, ◌<◌, ◌≤◌, length, get_or};
 ghost use Rattle.model.specs.Types.{Move};
 ghost use Rattle.model.specs.Phases;
 ghost use Rattle.model.specs.Reading.{core_state_meant};
 ghost use Rattle.model.specs.declared.CoreState.TheVariants;
-ghost use Rattle.queue.specs.Words.{moves_in, Appended, NoLonger};
-ghost use Rattle.turns.specs.Turns.{rules_of, Short};
+ghost use Rattle.queue.specs.Words.{made, Appended, NoLonger, StillLent};
+ghost use Rattle.queue.specs.Ready.{waiting};
+ghost use Rattle.turns.specs.Turns.{rules_meant, with_quantum, Short};
 ghost use Rattle.phases.specs.Cores.{core_at, Ran};
 
-use dispatch::states;
 use model::{CoreId, CoreState};
-use settings::SchedPolicy;
-use turns::{phase1, phase2, phase3, phase4, phase5};
+use queue::moves::Moves;
+use queue::ready::ReadyQueue;
+use turns::{Marks, Rules, phase1, phase2, phase3, phase4, phase5};
 
 // Phase 1 on the core states.
 pub fn phase1(cores: [CoreState; 8], n: usize) -> [CoreState; 8]
@@ -28,30 +29,27 @@ pub fn phase1(cores: [CoreState; 8], n: usize) -> [CoreState; 8]
         if n <= i {
             break;
         }
-        let s = cs[i];
-        let t = phase1::phase1_on(s);
-        cs[i] = t;
+        cs[i] = phase1::phase1_on(cs[i]);
     }
     cs
 }
 
 // Phase 2: a core that finished switching runs its thread.
-pub fn phase2(cores: [CoreState; 8], n: usize, out: &mut [u64], count: &mut usize) -> [CoreState; 8]
-    requires { (n ≤ 8) × (count.old + n ≤ length out.old) }
-    ensures ran { (ex bl yi pr : List Bool) (q : List ℕ) → Ran Phases.phase2 n (core_at cores ex bl yi pr) q (moves_in out.old count.old) (core_at result ex bl yi pr) q (moves_in out.new count.new) }
-    ensures out { Appended n count.old count.new out.old out.new }
+pub fn phase2(cores: [CoreState; 8], n: usize, moves: &mut Moves) -> [CoreState; 8]
+    requires { (n ≤ 8) × (moves.old.count + n ≤ length moves.old.words.now) }
+    ensures ran { (ex bl yi pr : List Bool) (q : List ℕ) → Ran Phases.phase2 n (core_at cores ex bl yi pr) q (made moves.old) (core_at result ex bl yi pr) q (made moves.new) }
+    ensures out { Appended n moves.old.count moves.new.count moves.old.words.now moves.new.words.now }
+    ensures lent { StillLent moves.old.words moves.new.words }
 {
     let mut cs = cores;
     for i in 0..8 {
         if n <= i {
             break;
         }
-        let s = cs[i];
-        if !states::is_switching(s) {
+        if !cs[i].is_switching() {
             continue;
         }
-        let t = phase2::phase2_on(s, CoreId(i as u32), out, count);
-        cs[i] = t;
+        cs[i] = phase2::phase2_on(cs[i], moves);
     }
     cs
 }
@@ -60,40 +58,27 @@ pub fn phase2(cores: [CoreState; 8], n: usize, out: &mut [u64], count: &mut usiz
 pub fn phase3(
     cores: [CoreState; 8],
     n: usize,
-    exits: &mut [bool; 8],
-    blocks: &mut [bool; 8],
-    yields: &mut [bool; 8],
-    queue: &mut [u32],
-    len: &mut usize,
-    out: &mut [u64],
-    count: &mut usize,
+    marks: &mut Marks,
+    queue: &mut ReadyQueue,
+    moves: &mut Moves,
 ) -> [CoreState; 8]
-    requires { (n ≤ 8) × (len.old ≤ length queue.old) × (count.old + n ≤ length out.old) }
-    ensures ran { (pr : List Bool) → Ran Phases.phase3 n (core_at cores exits.old blocks.old yields.old pr) (take len.old queue.old) (moves_in out.old count.old) (core_at result exits.new blocks.new yields.new pr) (take len.new queue.new) (moves_in out.new count.new) }
-    ensures queue { NoLonger len.old len.new queue.old queue.new }
-    ensures out { Appended n count.old count.new out.old out.new }
+    requires { (n ≤ 8) × (queue.old.len ≤ length queue.old.words.now) × (moves.old.count + n ≤ length moves.old.words.now) }
+    ensures ran { (pr : List Bool) → Ran Phases.phase3 n (core_at cores marks.old.exits marks.old.blocks marks.old.yields pr) (waiting queue.old) (made moves.old) (core_at result marks.new.exits marks.new.blocks marks.new.yields pr) (waiting queue.new) (made moves.new) }
+    ensures progressed { marks.new.progressed ≡ marks.old.progressed }
+    ensures queue { NoLonger queue.old.len queue.new.len queue.old.words.now queue.new.words.now }
+    ensures out { Appended n moves.old.count moves.new.count moves.old.words.now moves.new.words.now }
+    ensures lent { StillLent queue.old.words queue.new.words }
+    ensures lent_moves { StillLent moves.old.words moves.new.words }
 {
     let mut cs = cores;
     for i in 0..8 {
         if n <= i {
             break;
         }
-        if !phase3::is_marked(exits[i], blocks[i], yields[i]) {
+        if !phase3::is_marked(marks.exits[i], marks.blocks[i], marks.yields[i]) {
             continue;
         }
-        let s = cs[i];
-        let t = phase3::phase3_on(
-            s,
-            CoreId(i as u32),
-            exits,
-            blocks,
-            yields,
-            queue,
-            len,
-            out,
-            count,
-        );
-        cs[i] = t;
+        cs[i] = phase3::phase3_on(cs[i], CoreId(i as u32), marks, queue, moves);
     }
     cs
 }
@@ -102,42 +87,27 @@ pub fn phase3(
 pub fn phase4(
     cores: [CoreState; 8],
     n: usize,
-    policy: SchedPolicy,
-    cost: u32,
-    prios: &[u32],
+    rules: &Rules,
     progressed: &mut [bool; 8],
-    queue: &mut [u32],
-    len: &mut usize,
-    out: &mut [u64],
-    count: &mut usize,
+    queue: &mut ReadyQueue,
+    moves: &mut Moves,
 ) -> [CoreState; 8]
-    requires { (n ≤ 8) × (len.old ≤ length queue.old) × (count.old + 2 * n ≤ length out.old) }
-    ensures ran { (u : ℕ) (ex bl yi : List Bool) → Ran (Phases.phase4 (rules_of policy u cost prios.now)) n (core_at cores ex bl yi progressed.old) (take len.old queue.old) (moves_in out.old count.old) (core_at result ex bl yi progressed.new) (take len.new queue.new) (moves_in out.new count.new) }
-    ensures queue { NoLonger len.old len.new queue.old queue.new }
-    ensures out { Appended (2 * n) count.old count.new out.old out.new }
+    requires { (n ≤ 8) × (queue.old.len ≤ length queue.old.words.now) × (moves.old.count + 2 * n ≤ length moves.old.words.now) }
+    ensures ran { (u : ℕ) (ex bl yi : List Bool) → Ran (Phases.phase4 (with_quantum rules.now u)) n (core_at cores ex bl yi progressed.old) (waiting queue.old) (made moves.old) (core_at result ex bl yi progressed.new) (waiting queue.new) (made moves.new) }
+    ensures queue { NoLonger queue.old.len queue.new.len queue.old.words.now queue.new.words.now }
+    ensures out { Appended (2 * n) moves.old.count moves.new.count moves.old.words.now moves.new.words.now }
+    ensures lent { StillLent queue.old.words queue.new.words }
+    ensures lent_moves { StillLent moves.old.words moves.new.words }
 {
     let mut cs = cores;
     for i in 0..8 {
         if n <= i {
             break;
         }
-        let s = cs[i];
-        if !states::is_idle(s) {
+        if !cs[i].is_idle() {
             continue;
         }
-        let t = phase4::phase4_on(
-            s,
-            CoreId(i as u32),
-            policy,
-            cost,
-            prios,
-            progressed,
-            queue,
-            len,
-            out,
-            count,
-        );
-        cs[i] = t;
+        cs[i] = phase4::phase4_on(cs[i], CoreId(i as u32), rules, progressed, queue, moves);
     }
     cs
 }
@@ -146,46 +116,28 @@ pub fn phase4(
 pub fn phase5(
     cores: [CoreState; 8],
     n: usize,
-    policy: SchedPolicy,
-    quantum: u32,
-    cost: u32,
-    prios: &[u32],
-    yields: &mut [bool; 8],
-    progressed: &mut [bool; 8],
-    queue: &mut [u32],
-    len: &mut usize,
-    out: &mut [u64],
-    count: &mut usize,
+    rules: &Rules,
+    marks: &mut Marks,
+    queue: &mut ReadyQueue,
+    moves: &mut Moves,
 ) -> [CoreState; 8]
-    requires { (n ≤ 8) × (len.old ≤ length queue.old) × (count.old + 3 * n ≤ length out.old) }
-    ensures ran { (ex bl : List Bool) → Ran (Phases.phase5 (rules_of policy quantum cost prios.now)) n (core_at cores ex bl yields.old progressed.old) (take len.old queue.old) (moves_in out.old count.old) (core_at result ex bl yields.new progressed.new) (take len.new queue.new) (moves_in out.new count.new) }
-    ensures queue { NoLonger len.old len.new queue.old queue.new }
-    ensures out { Appended (3 * n) count.old count.new out.old out.new }
+    requires { (n ≤ 8) × (queue.old.len ≤ length queue.old.words.now) × (moves.old.count + 3 * n ≤ length moves.old.words.now) }
+    ensures ran { (ex bl : List Bool) → Ran (Phases.phase5 (rules_meant rules.now)) n (core_at cores ex bl marks.old.yields marks.old.progressed) (waiting queue.old) (made moves.old) (core_at result ex bl marks.new.yields marks.new.progressed) (waiting queue.new) (made moves.new) }
+    ensures others { (marks.new.exits ≡ marks.old.exits) × (marks.new.blocks ≡ marks.old.blocks) }
+    ensures queue { NoLonger queue.old.len queue.new.len queue.old.words.now queue.new.words.now }
+    ensures out { Appended (3 * n) moves.old.count moves.new.count moves.old.words.now moves.new.words.now }
+    ensures lent { StillLent queue.old.words queue.new.words }
+    ensures lent_moves { StillLent moves.old.words moves.new.words }
 {
     let mut cs = cores;
     for i in 0..8 {
         if n <= i {
             break;
         }
-        let s = cs[i];
-        if !phase5::has_turn(s, yields[i], policy, quantum, progressed[i]) {
+        if !phase5::has_turn(cs[i], marks.yields[i], rules, marks.progressed[i]) {
             continue;
         }
-        let t = phase5::phase5_on(
-            s,
-            CoreId(i as u32),
-            policy,
-            quantum,
-            cost,
-            prios,
-            yields,
-            progressed,
-            queue,
-            len,
-            out,
-            count,
-        );
-        cs[i] = t;
+        cs[i] = phase5::phase5_on(cs[i], CoreId(i as u32), rules, marks, queue, moves);
     }
     cs
 }

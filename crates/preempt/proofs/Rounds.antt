@@ -10,7 +10,7 @@ use native.Mathlib.Nat.{le_of_suc-le-suc, not-suc-le-zero, eq-or-lt_of_le}
 use native.Mathlib.Omega.{arith}
 use lib.ListN.{length, get_or, set, take, length-take}
 use lib.Seq.{get_or-set_same, get_or-set_other}
-use Rattle.model.specs.Types.{Policy, Priority, CoreState, Preempt, Core, Move}
+use Rattle.model.specs.Types.{Policy, Priority, Preempt, Core, Move}
 use Rattle.model.specs.Phases.{Rules, Pass, Preemption, dispatch, without, most_urgent, least_urgent, update, preempted, preemption_of, next_preemption, preempt_rounds, phase6}
 use Rattle.model.specs.Reading.{core_state_meant}
 use Rattle.model.specs.declared.CoreState as Program

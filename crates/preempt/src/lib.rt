@@ -3,56 +3,58 @@
 // Its public functions are parts for other crates: no host calls them.
 #![tactic(auto)]
 
-ghost use Rattle.std.specs.Prelude.{◌≡◌, Bool, List, ℕ, ◌+◌, ◌*◌, ◌<◌, ◌≤◌, length, take};
+ghost use Rattle.std.specs.Prelude.{◌≡◌, Bool, List, ℕ, ◌+◌, ◌*◌, ◌<◌, ◌≤◌, length, IfSome};
 ghost use Rattle.std.proofs.Math.Option.{none};
 ghost use Rattle.settings.specs.Reading.{policy_meant};
 ghost use Rattle.model.specs.Types.{Priority};
 ghost use Rattle.model.specs.Phases;
 ghost use Rattle.model.specs.Phases.{most_urgent, least_urgent, preemption_of, preempt_rounds, next_preemption};
-ghost use Rattle.queue.specs.Words.{Appended, NoLonger};
-ghost use Rattle.queue.specs.Ready.{prio_of};
-ghost use Rattle.turns.specs.Turns.{rules_of};
-ghost use Rattle.phases.specs.Cores.{firsts, core_at, observed};
-ghost use Rattle.preempt.specs.Preemptions.{Loses, preemption_meant, Placed};
+ghost use Rattle.queue.specs.Words.{made, Appended, NoLonger, StillLent};
+ghost use Rattle.queue.specs.Ready.{prio_of, waiting};
+ghost use Rattle.turns.specs.Turns.{rules_of, with_quantum};
+ghost use Rattle.phases.specs.Cores.{firsts, core_at, pass_of};
+ghost use Rattle.preempt.specs.Preemptions.{victim_meant, preemption_meant, Placed};
 
-use dispatch::states;
 use model::{CoreId, CoreState, LeaveReason, Tid};
+use queue::moves::Moves;
 use queue::pick;
+use queue::ready::ReadyQueue;
 use settings::SchedPolicy;
+use turns::Rules;
+
+// A thread that may lose its core.
+#[derive(Clone, Copy)]
+pub struct Victim {
+    pub core: CoreId,
+    pub tid: Tid,
+}
 
 // The thread that loses its core, and the place in the queue of the one that takes it.
 #[derive(Clone, Copy)]
-pub enum NextPreemption {
-    Nobody,
-    Of { core: CoreId, tid: Tid, at: usize },
+pub struct Preemption {
+    pub victim: Victim,
+    pub at: usize,
 }
 
-// The running core with the largest number, the highest among equals; n where none runs.
-pub fn least_urgent(cores: [CoreState; 8], n: usize, prios: &[u32]) -> CoreId
+// The running thread with the largest number, on the highest core among equals.
+pub fn least_urgent(cores: [CoreState; 8], n: usize, prios: &[u32]) -> Option<Victim>
     requires { n ≤ 8 }
-    ensures { (ex bl yi pr : List Bool) → Loses (least_urgent (prio_of prios.now) 0 (firsts (core_at cores ex bl yi pr) n)) cores n result.0 }
+    ensures victim { (ex bl yi pr : List Bool) → least_urgent (prio_of prios.now) 0 (firsts (core_at cores ex bl yi pr) n) ≡ victim_meant result }
+    ensures within { IfSome result (λ v. v.core.0 < n) }
 {
-    let cs = cores;
-    let mut at = n;
+    let mut least = None;
     let mut high: u32 = 0;
-    let mut i: usize = 0;
-    while i < n {
-        let j = i;
-        i += 1;
-        let s = cs[j];
-        match s {
-            CoreState::Idle => {}
-            CoreState::Switching { tid: _, left: _ } => {}
-            CoreState::Running { tid, slice: _ } => {
-                let p = pick::priority_of(prios, tid);
-                if high <= p {
-                    at = j;
-                    high = p;
-                }
+    for i in 0..n {
+        if let CoreState::Running { tid, .. } = cores[i] {
+            let p = pick::priority_of(prios, tid);
+            if high <= p {
+                let core = CoreId(i as u32);
+                least = Some(Victim { core, tid });
+                high = p;
             }
         }
     }
-    CoreId(at as u32)
+    least
 }
 
 // The most urgent thread that waits preempts the least urgent one that runs, if its number is strictly below.
@@ -60,79 +62,56 @@ pub fn next_preemption(
     cores: [CoreState; 8],
     n: usize,
     prios: &[u32],
-    queue: &[u32],
-    len: usize,
-) -> NextPreemption
-    requires { (n ≤ 8) × (len ≤ length queue.now) }
-    ensures next { (ex bl yi pr : List Bool) → preemption_of (prio_of prios.now) (most_urgent (prio_of prios.now) (take len queue.now)) (least_urgent (prio_of prios.now) 0 (firsts (core_at cores ex bl yi pr) n)) ≡ preemption_meant result (take len queue.now) }
-    ensures placed { Placed result n (take len queue.now) }
+    waiting: &[u32],
+) -> Option<Preemption>
+    requires { n ≤ 8 }
+    ensures next { (ex bl yi pr : List Bool) → preemption_of (prio_of prios.now) (most_urgent (prio_of prios.now) waiting.now) (least_urgent (prio_of prios.now) 0 (firsts (core_at cores ex bl yi pr) n)) ≡ preemption_meant result waiting.now }
+    ensures placed { Placed result n waiting.now }
 {
-    let cs = cores;
-    let k = pick::most_urgent(prios, queue, len, 4294967295);
-    if len <= k {
-        return NextPreemption::Nobody;
+    let at = pick::most_urgent(prios, waiting, 4294967295)?;
+    let victim = least_urgent(cores, n, prios)?;
+    let next = Tid(waiting[at]);
+    if pick::priority_of(prios, victim.tid) <= pick::priority_of(prios, next) {
+        return None;
     }
-    let v = least_urgent(cores, n, prios);
-    let i = v.0 as usize;
-    if n <= i {
-        return NextPreemption::Nobody;
-    }
-    let s = cs[i];
-    let tid = states::tid_in(s);
-    let next = Tid(queue[k]);
-    if pick::priority_of(prios, tid) <= pick::priority_of(prios, next) {
-        return NextPreemption::Nobody;
-    }
-    NextPreemption::Of {
-        core: v,
-        tid: tid,
-        at: k,
-    }
+    Some(Preemption { victim, at })
 }
 
 // At most n rounds, after which there is no next preemption.
 pub fn preempt_rounds(
     cores: [CoreState; 8],
     n: usize,
-    cost: u32,
-    prios: &[u32],
+    rules: &Rules,
     progressed: &mut [bool; 8],
-    queue: &mut [u32],
-    len: &mut usize,
-    out: &mut [u64],
-    count: &mut usize,
+    queue: &mut ReadyQueue,
+    moves: &mut Moves,
 ) -> [CoreState; 8]
-    requires { (n ≤ 8) × (len.old ≤ length queue.old) × (count.old + 3 * n ≤ length out.old) }
-    ensures pass { (policy : SchedPolicy) (u : ℕ) (ex bl yi : List Bool) → observed n result ex bl yi progressed.new queue.new len.new out.new count.new ≡ preempt_rounds (rules_of policy u cost prios.now) n (observed n cores ex bl yi progressed.old queue.old len.old out.old count.old) }
+    requires { (n ≤ 8) × (queue.old.len ≤ length queue.old.words.now) × (moves.old.count + 3 * n ≤ length moves.old.words.now) }
+    ensures pass { (policy : SchedPolicy) (u : ℕ) (ex bl yi : List Bool) → pass_of n (core_at result ex bl yi progressed.new) (waiting queue.new) (made moves.new) ≡ preempt_rounds (rules_of policy u rules.now.cost rules.now.prios.now) n (pass_of n (core_at cores ex bl yi progressed.old) (waiting queue.old) (made moves.old)) }
     ensures rest { (ex bl yi : List Bool) (j : ℕ) → n ≤ j → core_at result ex bl yi progressed.new j ≡ core_at cores ex bl yi progressed.old j }
-    ensures queue { NoLonger len.old len.new queue.old queue.new }
-    ensures out { Appended (3 * n) count.old count.new out.old out.new }
+    ensures queue { NoLonger queue.old.len queue.new.len queue.old.words.now queue.new.words.now }
+    ensures out { Appended (3 * n) moves.old.count moves.new.count moves.old.words.now moves.new.words.now }
+    ensures lent { StillLent queue.old.words queue.new.words }
+    ensures lent_moves { StillLent moves.old.words moves.new.words }
 {
     let mut cs = cores;
-    let mut i: usize = 0;
-    while i < n {
-        let w = *len;
-        let x = next_preemption(cs, n, prios, queue, w);
-        match x {
-            NextPreemption::Nobody => return cs,
-            NextPreemption::Of { core, tid, at } => {
-                let t = dispatch::swap(
+    for _round in 0..n {
+        match next_preemption(cs, n, rules.prios, queue.waiting()) {
+            None => return cs,
+            Some(next) => {
+                let core = next.victim.core;
+                cs[core.0 as usize] = dispatch::swap(
                     core,
-                    tid,
+                    next.victim.tid,
                     LeaveReason::Preempt,
-                    at,
-                    cost,
+                    next.at,
+                    rules.cost,
                     progressed,
                     queue,
-                    len,
-                    out,
-                    count,
+                    moves,
                 );
-                let v = core.0 as usize;
-                cs[v] = t;
             }
         }
-        i += 1;
     }
     cs
 }
@@ -141,28 +120,22 @@ pub fn preempt_rounds(
 pub fn phase6(
     cores: [CoreState; 8],
     n: usize,
-    policy: SchedPolicy,
-    cost: u32,
-    prios: &[u32],
+    rules: &Rules,
     progressed: &mut [bool; 8],
-    queue: &mut [u32],
-    len: &mut usize,
-    out: &mut [u64],
-    count: &mut usize,
+    queue: &mut ReadyQueue,
+    moves: &mut Moves,
 ) -> [CoreState; 8]
-    requires { (n ≤ 8) × (len.old ≤ length queue.old) × (count.old + 3 * n ≤ length out.old) }
-    ensures pass { (u : ℕ) (ex bl yi : List Bool) → observed n result ex bl yi progressed.new queue.new len.new out.new count.new ≡ Phases.phase6 (policy_meant policy) (rules_of policy u cost prios.now) (observed n cores ex bl yi progressed.old queue.old len.old out.old count.old) }
-    ensures settled { (u : ℕ) (ex bl yi : List Bool) → policy_meant policy ≡ Priority → next_preemption (rules_of policy u cost prios.now) (observed n result ex bl yi progressed.new queue.new len.new out.new count.new) ≡ none }
+    requires { (n ≤ 8) × (queue.old.len ≤ length queue.old.words.now) × (moves.old.count + 3 * n ≤ length moves.old.words.now) }
+    ensures pass { (u : ℕ) (ex bl yi : List Bool) → pass_of n (core_at result ex bl yi progressed.new) (waiting queue.new) (made moves.new) ≡ Phases.phase6 (policy_meant rules.now.policy) (with_quantum rules.now u) (pass_of n (core_at cores ex bl yi progressed.old) (waiting queue.old) (made moves.old)) }
+    ensures settled { (u : ℕ) (ex bl yi : List Bool) → policy_meant rules.now.policy ≡ Priority → next_preemption (with_quantum rules.now u) (pass_of n (core_at result ex bl yi progressed.new) (waiting queue.new) (made moves.new)) ≡ none }
     ensures rest { (ex bl yi : List Bool) (j : ℕ) → n ≤ j → core_at result ex bl yi progressed.new j ≡ core_at cores ex bl yi progressed.old j }
-    ensures queue { NoLonger len.old len.new queue.old queue.new }
-    ensures out { Appended (3 * n) count.old count.new out.old out.new }
+    ensures queue { NoLonger queue.old.len queue.new.len queue.old.words.now queue.new.words.now }
+    ensures out { Appended (3 * n) moves.old.count moves.new.count moves.old.words.now moves.new.words.now }
+    ensures lent { StillLent queue.old.words queue.new.words }
+    ensures lent_moves { StillLent moves.old.words moves.new.words }
 {
-    match policy {
-        SchedPolicy::Off => cores,
-        SchedPolicy::Fifo => cores,
-        SchedPolicy::RoundRobin => cores,
-        SchedPolicy::Priority => preempt_rounds(
-            cores, n, cost, prios, progressed, queue, len, out, count,
-        ),
+    match rules.policy {
+        SchedPolicy::Off | SchedPolicy::Fifo | SchedPolicy::RoundRobin => cores,
+        SchedPolicy::Priority => preempt_rounds(cores, n, rules, progressed, queue, moves),
     }
 }

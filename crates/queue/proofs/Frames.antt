@@ -6,7 +6,8 @@ use mathlib.Core.List.{List}
 use native.Mathlib.Omega.{arith}
 use lib.ListN.{drop, set}
 use lib.Seq.{drop-set-lt, drop-drop}
-use Rattle.queue.specs.Words.{Behind, Appended, NoLonger}
+use Rattle.std.specs.Borrow.{MutBor}
+use Rattle.queue.specs.Words.{StillLent, Behind, Appended, NoLonger}
 
 -- further behind
 pub later : (k k' : ℕ) (old new : List ℕ) → k ≤ k' → Behind k old new → Behind k' old new
@@ -17,6 +18,14 @@ later k k' old new l e =
 -- a word stored at the count
 pub stored : (l : List ℕ) (n x : ℕ) → Behind (n + 1) l (set l n x)
 stored l n x = drop-set-lt (n + 1) l n x (omega arith)
+
+---- words that are lent
+
+pub still-lent-both : {a b c : MutBor (List ℕ)} → StillLent a b → StillLent b c → StillLent a c
+still-lent-both x y = record { same = y.same ∙ x.same; long = y.long ∙ x.long }
+
+pub still-lent : (a : MutBor (List ℕ)) → StillLent a a
+still-lent a = record { same = refl; long = refl }
 
 ---- words appended
 

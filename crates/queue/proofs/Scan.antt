@@ -1,19 +1,21 @@
 -- A scan of a list from its end that keeps the place of the smallest number up to m, the earliest among equals: what it knows of the part d that it has
 -- passed, of which k is the place and low the number; nobody yet: k is d's length and low is m.
 -- Assumes nothing.
-use Prim.Native.Nat.{ℕ, zero, suc, ◌+◌, ◌-◌, ◌≤◌, ◌<◌, suc-le-suc}
+use Prim.Native.Nat.{ℕ, zero, suc, ◌-◌, ◌≤◌, ◌<◌, suc-le-suc}
 use mathlib.Core.Path.{◌≡◌, refl, sym, ap, ◌∙◌}
 use mathlib.Core.Bool.{Bool, true, false, cond}
 use mathlib.Core.Option.{Option, none, some}
-use mathlib.Core.List.{List, [], ◌∷◌, ◌++◌, head?}
+use mathlib.Core.List.{List, [], ◌∷◌, ◌++◌}
 use native.Mathlib.Nat.{le_of_suc-le-suc, not-suc-le-zero}
 use native.Mathlib.Omega.{arith}
 use lib.Dec.{leb}
-use lib.ListN.{length, get_or, get_elem?, take, drop, drop_of_length-le, length-take}
-use lib.Seq.{length-take-le, drop-cons, get_or-take}
+use lib.ListN.{length, get_or, get_elem?, drop, drop_of_length-le}
+use lib.Seq.{drop-cons}
 use borrow.Author.Tests.{eq-eqb, ne_eqb, lt-ltb, le-ltb, le-leb, lt-leb}
 use Rattle.model.specs.Phases.{without, more_urgent, most_urgent, eligible}
-use Rattle.queue.specs.Ready.{remove_at, Picked}
+use Rattle.queue.specs.Ready.{remove_at, Picked, Chosen, front}
+use Rattle.std.specs.Prelude.{Option as Answer, Some, None}
+use borrow.Author.Rules.{rules}
 
 -- a place behind the last
 pub behind : (d : List ℕ) (k : ℕ) → length d ≤ k → get_elem? d k ≡ none
@@ -92,50 +94,57 @@ unfolding eligible
 eligible-none pr d = refl
 
 -- the front
-pub front : (d : List ℕ) → Picked (head? d) d 0
+pub front_picked : (d : List ℕ) → Picked (front d) d 0
 unfolding without
-front [] = record { next = refl; first = λ l s. absurd (omega arith) }
-front (x ∷ d) = record { next = refl; first = λ l s. rw (eq-eqb x x refl) }
+front_picked [] = record { next = refl; first = λ l s. absurd (omega arith) }
+front_picked (x ∷ d) = record { next = refl; first = λ l s. rw (eq-eqb x x refl) }
 
----- the same as the loop has it: it has come down to place i of the first n of q
+pub nobody_waits : (d : List ℕ) → length d ≡ 0 → Picked (front d) d (length d)
+nobody_waits d e = rw e (front_picked d)
 
-under : (q : List ℕ) (n i : ℕ) → n ≤ length q → 0 < i → i ≤ n → drop (i - 1) (take n q) ≡ get_or q (i - 1) 0 ∷ drop i (take n q)
-under q n i h l g =
-    let w : i - 1 < length (take n q) = rw (length-take-le n q h) (omega arith) in
-    let e : suc (i - 1) ≡ i = omega arith in
-    let s : i - 1 < n = omega arith in
-    drop-cons (take n q) (i - 1) 0 w ∙ rw (e, get_or-take n q (i - 1) 0 s)
+---- the same as the loop has it: it has come down to place i of q
 
-module _ (pr : ℕ → ℕ) (m : ℕ) (q : List ℕ) (n : ℕ) (h : n ≤ length q) where
-  pub down-start : Scan pr m (drop n (take n q)) (n - n) m
-  down-start =
-      let e : drop n (take n q) ≡ [] = drop_of_length-le (take n q) {i = n} (rw (length-take-le n q h) (omega arith)) in
-      rw e (scan-none pr m (n - n) (omega arith))
+module _ (pr : ℕ → ℕ) (m : ℕ) (q : List ℕ) where
+  pub record Down (i at low : ℕ) : Type 0 where
+    pub from : i ≤ at
+    pub scan : Scan pr m (drop i q) (at - i) low
 
-  module _ (i at low p : ℕ) (l : 0 < i) (g : i ≤ n) (a : i ≤ at) (e : p ≡ pr (get_or q (i - 1) 0)) (s : Scan pr m (drop i (take n q)) (at - i) low) where
-    pub down-take : p ≤ low → Scan pr m (drop (i - 1) (take n q)) ((i - 1) - (i - 1)) p
-    down-take t =
-        let z : (i - 1) - (i - 1) ≡ 0 = omega arith in
-        rw (under q n i h l g, z, e) (scan-take pr m (get_or q (i - 1) 0) (drop i (take n q)) (at - i) low (omega arith) s)
+  pub down_start : Down (length q) (length q) m
+  down_start =
+      let e : drop (length q) q ≡ [] = drop_of_length-le q {i = length q} (omega arith) in
+      record { from = omega arith; scan = rw e (scan-none pr m (length q - length q) (omega arith)) }
 
-    pub down-keep : low < p → Scan pr m (drop (i - 1) (take n q)) (at - (i - 1)) low
-    down-keep t =
-        let z : at - (i - 1) ≡ suc (at - i) = omega arith in
-        rw (under q n i h l g, z) (scan-keep pr m (get_or q (i - 1) 0) (drop i (take n q)) (at - i) low (omega arith) s)
+  -- the entry at i - 1, and those behind it
+  under : (i : ℕ) → 0 < i → i ≤ length q → drop (i - 1) q ≡ get_or q (i - 1) 0 ∷ drop i q
+  under i l g =
+      let e : suc (i - 1) ≡ i = omega arith in
+      drop-cons q (i - 1) 0 (omega arith) ∙ rw e
 
-  pub down-end : (i at low : ℕ) → i ≤ 0 → Scan pr m (drop i (take n q)) (at - i) low → Picked (best pr m (take n q)) (take n q) at
-  down-end i at low l s =
+  pub down_take : (i at low p : ℕ) → 0 < i → i ≤ length q → p ≡ pr (get_or q (i - 1) 0) → p ≤ low → Down i at low → Down (i - 1) (i - 1) p
+  down_take i at low p l g e t d =
+      let z : (i - 1) - (i - 1) ≡ 0 = omega arith in
+      record { from = omega arith; scan = rw (under i l g, z, e) (scan-take pr m (get_or q (i - 1) 0) (drop i q) (at - i) low (omega arith) d.scan) }
+
+  pub down_keep : (i at low p : ℕ) → 0 < i → i ≤ length q → p ≡ pr (get_or q (i - 1) 0) → low < p → Down i at low → Down (i - 1) at low
+  down_keep i at low p l g e t d =
+      let z : at - (i - 1) ≡ suc (at - i) = omega (arith, d.from) in
+      record { from = omega (arith, d.from); scan = rw (under i l g, z) (scan-keep pr m (get_or q (i - 1) 0) (drop i q) (at - i) low (omega arith) d.scan) }
+
+  down_end : (i at low : ℕ) → i ≤ 0 → Down i at low → Picked (best pr m q) q at
+  down_end i at low l d =
       let z : i ≡ 0 = omega arith in
       let y : at - 0 ≡ at = omega arith in
-      scan-end pr m (take n q) at low (rw y at (rw z at s))
+      scan-end pr m q at low (rw y at (rw z at d.scan))
 
-  pub down-any : ((t : ℕ) → pr t ≤ m) → (at : ℕ) → Picked (best pr m (take n q)) (take n q) at → Picked (most_urgent pr (take n q)) (take n q) at
-  down-any all at p = rw (eligible-all pr m all (take n q)) at p
+  pub down_some : (i at low : ℕ) → i ≤ 0 → Down i at low → at < length q → Chosen (best pr m q) q (Some at)
+  down_some i at low l d h = record { picked = down_end i at low l d; within = h }
 
----- what the loops' callers ask of a place in the first n of q
+  pub down_none : (i at low : ℕ) → i ≤ 0 → Down i at low → length q ≤ at → Chosen (best pr m q) q None
+  down_none i at low l d h =
+      record {
+        picked = record { next = (down_end i at low l d).next ∙ (behind q at h ∙ sym (behind q (length q) (omega arith))); first = λ k s. absurd (omega arith) };
+        within = search rules;
+      }
 
-pub past : (q : List ℕ) (n k : ℕ) → n ≤ k → length (take n q) ≤ k
-past q n k h = simp length-take (omega arith)
-
-pub inside : (q : List ℕ) (n k : ℕ) → n ≤ length q → k < n → k < length (take n q)
-inside q n k h l = rw (length-take-le n q h) l
+  pub down_any : ((t : ℕ) → pr t ≤ m) → (at : Answer ℕ) → Chosen (best pr m q) q at → Chosen (most_urgent pr q) q at
+  down_any all at p = rw (eligible-all pr m all q) at p

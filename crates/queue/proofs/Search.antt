@@ -1,74 +1,62 @@
--- The place of a thread in a queue: it stands at i and not before.
+-- The first place of a thread in a queue; the queue's length where it is not there.
 -- Assumes nothing.
-use Prim.Native.Nat.{ℕ, zero, suc, ◌≤◌, ◌<◌, suc-le-suc}
+use Prim.Native.Nat.{ℕ, ◌≤◌, ◌<◌}
 use mathlib.Core.Path.{◌≡◌, refl, sym, ap, ◌∙◌}
-use mathlib.Core.Bool.{Bool, true, false, cond, ◌||◌}
+use mathlib.Core.Bool.{Bool, true, false, cond}
 use mathlib.Core.Option.{Option, none, some}
 use mathlib.Core.List.{List, [], ◌∷◌, ◌++◌}
-use native.Mathlib.Nat.{le_of_suc-le-suc, not-suc-le-zero}
+use native.Mathlib.Numerals.{one-add}
 use native.Mathlib.Omega.{arith}
-use lib.Dec.{eqb}
-use lib.ListN.{length, get_or, take}
-use lib.Seq.{length-take-le, get_or-take}
-use borrow.Author.Tests.{eq-eqb, ne_eqb}
+use lib.Dec.{eqb, ltb}
+use lib.ListN.{length, get_or, get_elem?}
+use borrow.Author.Tests.{eqb-true, ltb-true, ltb-false}
+use Rattle.std.proofs.lemmas.List.Sums.{passes_at_first}
+use Rattle.std.specs.Prelude.{Option as Answer, Some, None}
+use borrow.Author.Rules.{rules}
+use Rattle.std.specs.List.{position, position_or_len}
 use Rattle.model.specs.Phases.{without}
 use Rattle.model.specs.Calls.{elem}
-use Rattle.queue.specs.Ready.{remove_at, Picked, named}
+use Rattle.queue.specs.Ready.{remove_at, Picked, Chosen, named}
 use Rattle.queue.proofs.Scan.{behind, there}
 
--- nowhere before i
-abbrev pub NotBefore : ℕ → List ℕ → ℕ → Type 0
-NotBefore t d i = (j : ℕ) → j < i → get_or d j 0 ≡ t → ⊥
+module _ (t : ℕ) where
+  abbrev place : List ℕ → ℕ
+  place d = position_or_len (λ x. eqb x t) d
 
-or-true : (b : Bool) → (b || true) ≡ true
-or-true true = refl
-or-true false = refl
+  place-next : (d : List ℕ) → named t d ≡ get_elem? d (place d)
+  unfolding elem
+  place-next [] = refl
+  place-next (x ∷ d) = go (eqb x t) refl (place-next d)
+    where
+      go : (b : Bool) → eqb x t ≡ b → named t d ≡ get_elem? d (place d) → named t (x ∷ d) ≡ get_elem? (x ∷ d) (place (x ∷ d))
+      go true e h = rw e (ap some (sym (eqb-true x t e)))
+      go false e h = rw (e, one-add) h
 
-elem-there : (t : ℕ) (d : List ℕ) (i : ℕ) → i < length d → get_or d i 0 ≡ t → elem t d ≡ true
-unfolding elem
-elem-there t [] i l e = absurd (not-suc-le-zero l)
-elem-there t (h ∷ d) zero l e = rw (eq-eqb h t e)
-elem-there t (h ∷ d) (suc i) l e = rw (elem-there t d i (le_of_suc-le-suc l) e) (or-true (eqb h t))
+  place-first : (d s : List ℕ) → place d < length d → without t (d ++ s) ≡ remove_at (place d) d ++ s
+  unfolding without
+  place-first [] s l = absurd (omega arith)
+  place-first (x ∷ d) s l = go (eqb x t) refl (place-first d s)
+    where
+      go : (b : Bool) → eqb x t ≡ b → (place d < length d → without t (d ++ s) ≡ remove_at (place d) d ++ s) → without t (x ∷ d ++ s) ≡ remove_at (place (x ∷ d)) (x ∷ d) ++ s
+      go true e h = rw e
+      go false e h =
+          let l' = rw (e, one-add) at l in
+          rw (e, one-add) (ap (λ (r : List ℕ). x ∷ r) (h (omega (arith, l'))))
 
-elem-absent : (t : ℕ) (d : List ℕ) → NotBefore t d (length d) → elem t d ≡ false
-unfolding elem
-elem-absent t [] n = refl
-elem-absent t (h ∷ d) n = rw (ne_eqb h t (λ e. n 0 (omega arith) e), elem-absent t d (λ j l e. n (suc j) (suc-le-suc l) e))
-
-without-first : (t : ℕ) (d s : List ℕ) (i : ℕ) → NotBefore t d i → i < length d → get_or d i 0 ≡ t → without t (d ++ s) ≡ remove_at i d ++ s
-unfolding without
-without-first t [] s i n l e = absurd (not-suc-le-zero l)
-without-first t (h ∷ d) s zero n l e = rw (eq-eqb h t e)
-without-first t (h ∷ d) s (suc i) n l e =
-    rw (ne_eqb h t (λ z. n 0 (omega arith) z)) (ap (λ (r : List ℕ). h ∷ r) (without-first t d s i (λ j k. n (suc j) (suc-le-suc k)) (le_of_suc-le-suc l) e))
-
-pub picked-here : (t : ℕ) (d : List ℕ) (i : ℕ) → NotBefore t d i → i < length d → get_or d i 0 ≡ t → Picked (named t d) d i
-picked-here t d i n l e =
-    record {
-      next = rw (elem-there t d i l e) (ap some (sym e) ∙ sym (there d i l));
-      first = λ k s. rw e (without-first t d s i n l e);
-    }
-
-pub picked-nobody : (t : ℕ) (d : List ℕ) (i : ℕ) → NotBefore t d i → length d ≤ i → Picked (named t d) d i
-picked-nobody t d i n l =
-    record {
-      next = rw (elem-absent t d (λ j k. n j (omega arith)), behind d i l);
-      first = λ k s. absurd (omega arith);
-    }
-
----- the same for the first n of q, as the loop has it
-
-module _ (t : ℕ) (q : List ℕ) (n : ℕ) (h : n ≤ length q) (i : ℕ) (l : i ≤ n) (b : NotBefore t q i) where
-  before : NotBefore t (take n q) i
-  before j k e =
-      let z : j < n = omega arith in
-      b j k (sym (get_or-take n q j 0 z) ∙ e)
-
-  pub position_here : i < n → get_or q i 0 ≡ t → Picked (named t (take n q)) (take n q) i
-  position_here k e = picked-here t (take n q) i before (rw (length-take-le n q h) k) (get_or-take n q i 0 k ∙ e)
-
-  pub position-none : n ≤ i → Picked (named t (take n q)) (take n q) i
-  position-none k = picked-nobody t (take n q) i before (rw (length-take-le n q h) k)
+  pub place_chosen : (d : List ℕ) (o : Answer ℕ) → o ≡ position (λ x. eqb x t) d → Chosen (named t d) d o
+  place_chosen d o p = go (ltb (place d) (length d)) refl
+    where
+      go : (b : Bool) → ltb (place d) (length d) ≡ b → Chosen (named t d) d o
+      go true f =
+          let e : o ≡ Some (place d) = rw f at p in
+          let at : get_or d (place d) 0 ≡ t = eqb-true _ _ (passes_at_first (λ x. eqb x t) d 0 (ltb-true _ _ f)) in
+          rw e (record { picked = record { next = place-next d; first = λ k s. rw at (place-first d s (ltb-true _ _ f)) }; within = ltb-true _ _ f })
+      go false f =
+          let e : o ≡ None = rw f at p in
+          rw e (record {
+            picked = record { next = place-next d ∙ (behind d (place d) (ltb-false _ _ f) ∙ sym (behind d (length d) (omega arith))); first = λ k s. absurd (omega arith) };
+            within = search rules;
+          })
 
 ---- what a place that is found says of the thread that was asked for
 

@@ -1,9 +1,11 @@
 -- Moves as words in the front of a lent slice, and what a function that writes there leaves as it was.
-use Rattle.std.specs.Prelude.{ℕ, zero, suc, ◌+◌, ◌/◌, ◌%◌, ◌≤◌, ◌≡◌, List, map, take, drop}
+use Rattle.std.specs.Prelude.{ℕ, zero, suc, ◌+◌, ◌/◌, ◌%◌, ◌≤◌, ◌<◌, ◌≡◌, List, map, length, take, drop}
+use Rattle.std.specs.Borrow.{MutBor}
 use Rattle.model.specs.Types.{Exit, Block, Yield, Quantum, Preempt, Forced, Move, starts, leaves, takes}
 use Rattle.model.specs.Reading.{reason_meant}
 use Rattle.queue.specs.declared.moves.Move as Program
 use Rattle.queue.specs.declared.moves.Move.TheVariants as MoveCases
+use Rattle.queue.specs.declared.moves.Moves.{Moves}
 
 -- a word's three parts: what happens, on which core, to which thread
 abbrev pub move_of : (code core tid : ℕ) → Move
@@ -24,6 +26,16 @@ decode w = move_of (w % 8) (w / 8 % 8) (w / 8 / 8 % 4294967296)
 unfoldable pub moves_in : List ℕ → (count : ℕ) → List Move
 moves_in out count = map decode (take count out)
 
+-- the moves that a decision has made so far
+abbrev pub made : Moves → List Move
+made m = moves_in m.words.now m.count
+
+-- a move on one of the eight cores
+abbrev pub OnBoard : Move → Type 0
+OnBoard (leaves t c r) = c < 8
+OnBoard (takes t c) = c < 8
+OnBoard (starts t) = Unit {0}
+
 -- a move that was read
 abbrev pub move_meant : Program.Move → Move
 move_meant (MoveCases.Leaves t c r) = leaves t.0 c.0 (reason_meant r)
@@ -31,6 +43,11 @@ move_meant (MoveCases.Takes t c) = takes t.0 c.0
 move_meant (MoveCases.Starts t) = starts t.0
 
 ---- what lies behind a count in lent memory
+
+-- still the same lent words, and as many
+pub record StillLent (old new : MutBor (List ℕ)) : Type 0 where
+  pub same : new.ghost_name ≡ old.ghost_name
+  pub long : length new.now ≡ length old.now
 
 abbrev pub Behind : ℕ → (old new : List ℕ) → Type 0
 Behind k old new = drop k new ≡ drop k old

@@ -1,35 +1,9 @@
-// Moves are words in the front of a lent slice: out[..count].
-ghost use Rattle.std.specs.Prelude.{◌≡◌, ◌++◌, ◌∷◌, [], ℕ, ◌+◌, ◌<◌, length, get_or};
-ghost use Rattle.model.specs.Types.{leaves};
-ghost use Rattle.model.specs.Reading.{reason_meant};
-ghost use Rattle.queue.specs.Words.{moves_in, move_of, decode, move_meant, Appended};
+// Moves are words in the front of a lent slice: words[..count].
+ghost use Rattle.std.specs.Prelude.{◌≡◌, ◌++◌, ◌∷◌, [], ◌+◌, ◌*◌, ◌<◌, length, get_or};
+ghost use Rattle.queue.specs.Words.{decode, move_meant, OnBoard, made, Appended, StillLent};
 
+use model::reasons::UnknownReason;
 use model::{CoreId, LeaveReason, Tid};
-
-// The code of a leave; 6 is a dispatch and 7 a start.
-pub fn reason_code(reason: LeaveReason) -> u64
-    ensures { (result < 8) × ((c t : ℕ) → move_of result c t ≡ leaves t c (reason_meant reason)) }
-{
-    match reason {
-        LeaveReason::Exit => 0,
-        LeaveReason::Block => 1,
-        LeaveReason::Yield => 2,
-        LeaveReason::Quantum => 3,
-        LeaveReason::Preempt => 4,
-        LeaveReason::Forced => 5,
-    }
-}
-
-pub fn push_move(out: &mut [u64], count: &mut usize, code: u64, core: CoreId, tid: Tid)
-    requires { (code < 8) × (core.0 < 8) × (count.old < length out.old) }
-    ensures moves { moves_in out.new count.new ≡ moves_in out.old count.old ++ (move_of code core.0 tid.0 ∷ []) }
-    ensures count { count.new ≡ count.old + 1 }
-    ensures out { Appended 1 count.old count.new out.old out.new }
-{
-    let n = *count;
-    out[n] = ((tid.0 as u64) * 8 + (core.0 as u64)) * 8 + code;
-    *count = n + 1;
-}
 
 #[derive(Clone, Copy)]
 pub enum Move {
@@ -47,27 +21,60 @@ pub enum Move {
     },
 }
 
-// The reason of a leave's code.
-pub fn reason_of(code: u64) -> LeaveReason
-    requires { code < 6 }
-    ensures { (c t : ℕ) → leaves t c (reason_meant result) ≡ move_of code c t }
+// What happens, as a word's lowest part has it: the number of a leave's reason, or one of these.
+const TAKES: u64 = 6;
+
+const STARTS: u64 = 7;
+
+#[derive(Drop)]
+pub struct Moves<'a> {
+    pub words: &'a mut [u64],
+    pub count: usize,
+}
+
+impl Moves<'_> {
+    pub fn push(&mut self, m: Move)
+        requires { OnBoard (move_meant m) × (self.old.count < length self.old.words.now) }
+        ensures moves { made self.new ≡ made self.old ++ (move_meant m ∷ []) }
+        ensures count { self.new.count ≡ self.old.count + 1 }
+        ensures out { Appended 1 self.old.count self.new.count self.old.words.now self.new.words.now }
+        ensures lent { StillLent self.old.words self.new.words }
+    {
+        self.words[self.count] = word(m);
+        self.count += 1;
+    }
+}
+
+// A word is (thread * 8 + core) * 8 + what happens; a start is on no core of its own.
+#[tactic(auto, using(crate::proofs::Words::decoded))]
+pub fn word(m: Move) -> u64
+    requires { OnBoard (move_meant m) }
+    ensures { decode result ≡ move_meant m }
 {
-    if code == 0 {
-        return LeaveReason::Exit;
+    match m {
+        Move::Leaves { tid, core, reason } => packed(tid, core, reason.code()),
+        Move::Takes { tid, core } => packed(tid, core, TAKES),
+        Move::Starts { tid } => packed(tid, CoreId(0), STARTS),
     }
-    if code == 1 {
-        return LeaveReason::Block;
+}
+
+fn packed(tid: Tid, core: CoreId, code: u64) -> u64
+    requires { (core.0 < 8) × (code < 8) }
+    ensures { result ≡ (tid.0 * 8 + core.0) * 8 + code }
+{
+    (tid.0 as u64 * 8 + core.0 as u64) * 8 + code
+}
+
+pub fn move_of(word: u64) -> Move
+    ensures { move_meant result ≡ decode word }
+{
+    let core = CoreId((word / 8 % 8) as u32);
+    let tid = Tid((word / 8 / 8 % 4294967296) as u32);
+    match LeaveReason::try_from(word % 8) {
+        Ok(reason) => Move::Leaves { tid, core, reason },
+        Err(UnknownReason(TAKES)) => Move::Takes { tid, core },
+        Err(UnknownReason(_)) => Move::Starts { tid },
     }
-    if code == 2 {
-        return LeaveReason::Yield;
-    }
-    if code == 3 {
-        return LeaveReason::Quantum;
-    }
-    if code == 4 {
-        return LeaveReason::Preempt;
-    }
-    LeaveReason::Forced
 }
 
 // The move at place k.
@@ -75,23 +82,5 @@ pub fn move_at(out: &[u64], k: usize) -> Move
     requires { k < length out.now }
     ensures { move_meant result ≡ decode (get_or out.now k 0) }
 {
-    let w = out[k];
-    let code = w % 8;
-    let core = CoreId((w / 8 % 8) as u32);
-    let tid = Tid((w / 8 / 8 % 4294967296) as u32);
-    if code < 6 {
-        let reason = reason_of(code);
-        return Move::Leaves {
-            tid: tid,
-            core: core,
-            reason: reason,
-        };
-    }
-    if code == 6 {
-        return Move::Takes {
-            tid: tid,
-            core: core,
-        };
-    }
-    Move::Starts { tid: tid }
+    move_of(out[k])
 }

@@ -13,34 +13,25 @@ use borrow.Author.Tests.{eqb-true, eqb-false}
 use lib.Dec.{eqb}
 use lib.ListN.{length, get_or, set, take, replicate, length-set, length-map, get_or-replicate}
 use lib.Seq.{take-suc, get_or-set_same, get_or-set_other, length-take-le}
-use Rattle.model.specs.Types.{LeaveReason, Forced, Move, starts, leaves, takes, SwitchEntry}
+use Rattle.model.specs.Types.{Move, starts, leaves, takes, SwitchEntry}
 use Rattle.model.specs.Accounting.{touched, switch_list}
-use Rattle.model.specs.Reading.{out_from, inn_from, switch_words_meant, switches_meant}
-use Rattle.model.specs.declared.CoreId.{CoreId}
-use Rattle.model.specs.declared.Tid.{Tid}
+use Rattle.model.specs.Reading.{switch_words_meant, switches_meant}
 use Rattle.model.specs.declared.SwitchWords.{SwitchWords}
+use Rattle.model.specs.declared.CoreId.{CoreId}
+use Rattle.std.specs.Prelude as Answered
 use Rattle.model.specs.Calls.{switched}
 use Rattle.model.proofs.LoopLaws.{switch_list-append}
 use Rattle.queue.specs.Words.{decode, moves_in}
 use Rattle.switches.specs.declared.SwitchList.{SwitchList}
-use Rattle.switches.specs.Entries.{core_touched, entry_after, reason_number, entry_words, no_switch, list_of, ListFor}
+use Rattle.switches.specs.Entries.{core_meant, core_touched, entry_after, entry_words, no_switch, list_of, ListFor}
 use Rattle.switches.proofs.Words.{InWords, words-meant, words-written}
 use Rattle.switches.proofs.Cores.{cores, added, touch-cores, slot, placed, slot_placed, slot-within, placed-here, placed-other}
 use Rattle.switches.proofs.Few.{CoreBelow, word_below, few}
 
--- the numbers of an entry that no earlier case has
-pub forced-from : (w t : ℕ) → 0 < w → w ≢ 1 → w ≢ 2 → w ≢ 3 → w ≢ 4 → w ≢ 5 → out_from w t ≡ some (record { tid = t; reason = Forced })
-forced-from zero t p a b c d e = absurd (omega arith)
-forced-from (suc zero) t p a b c d e = absurd (a refl)
-forced-from (suc (suc zero)) t p a b c d e = absurd (b refl)
-forced-from (suc (suc (suc zero))) t p a b c d e = absurd (c refl)
-forced-from (suc (suc (suc (suc zero)))) t p a b c d e = absurd (d refl)
-forced-from (suc (suc (suc (suc (suc zero))))) t p a b c d e = absurd (e refl)
-forced-from (suc (suc (suc (suc (suc (suc w)))))) t p a b c d e = refl
-
-pub came_from : (k t : ℕ) → k ≢ 0 → inn_from k t ≡ some t
-came_from zero t h = absurd (h refl)
-came_from (suc k) t h = refl
+-- a move that touches no core
+pub none_touched : (o : Answered.Option CoreId) → ((c : CoreId) → o ≡ Answered.Some c → ⊥) → 8 ≤ core_meant o
+none_touched Answered.None n = omega arith
+none_touched (Answered.Some c) n = absurd (n c refl)
 
 abbrev untouched : ℕ → SwitchEntry
 untouched i = record { core = i; out = none; inn = none }

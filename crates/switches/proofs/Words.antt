@@ -1,14 +1,15 @@
 -- An entry in words stands for the entry that it was made of, and a list in words for the list.
 -- Assumes nothing.
-use Prim.Native.Nat.{ℕ}
+use Rattle.std.specs.Prelude.{Ok, Result}
+use Rattle.settings.specs.declared.Refusal.{Refusal}
+use Prim.Native.Nat.{ℕ, ◌+◌}
+use Rattle.model.specs.Reasons.{reason_code}
 use mathlib.Core.Path.{◌≡◌, refl, sym, ap, ap₂, ◌∙◌, subst}
 use mathlib.Core.Option.{Option, none, some}
 use mathlib.Core.List.{List, [], ◌∷◌, ◌++◌, map}
 use lib.ListN.{length, take}
 use Rattle.model.specs.Accounting.{switch_list}
 use Rattle.model.specs.Calls.{refused, switched}
-use Rattle.model.specs.declared.CallAnswer.{CallAnswer}
-use Rattle.model.specs.declared.CallAnswer.TheVariants as CallCases
 use Rattle.queue.specs.Words.{moves_in}
 use Rattle.model.specs.Types.{LeaveReason, Exit, Block, Yield, Quantum, Preempt, Forced, Out, SwitchEntry}
 use Rattle.model.specs.Reading.{out_from, inn_from, switch_words_meant, switches_meant}
@@ -16,9 +17,19 @@ use Rattle.model.specs.declared.CoreId.{CoreId}
 use Rattle.model.specs.declared.Tid.{Tid}
 use Rattle.model.specs.declared.SwitchWords.{SwitchWords}
 use Rattle.switches.specs.declared.SwitchList.{SwitchList}
-use Rattle.switches.specs.Entries.{reason_number, reason_in, left_in, taken_in, came_in, entry_words, no_switch, list_of, no_switches, answer_with, ListFor}
+use Rattle.switches.specs.Entries.{reason_number, reason_in, left_in, taken_in, came_in, entry_words, list_of, no_switches, answer_with, ListFor}
 
 ---- an entry
+
+-- 0 is kept for no leave
+pub number-is : (r : LeaveReason) → 1 + reason_code r ≡ reason_number r
+unfolding reason_number
+number-is Exit = refl
+number-is Block = refl
+number-is Yield = refl
+number-is Quantum = refl
+number-is Preempt = refl
+number-is Forced = refl
 
 pub reason-back : (r : LeaveReason) (t : ℕ) → out_from (reason_number r) t ≡ some (record { tid = t; reason = r })
 unfolding reason_number
@@ -72,7 +83,7 @@ module _ (es : List SwitchEntry) (l : SwitchList) (h : ListFor (switched es) l) 
   pub list-says : switches_meant l.entries l.count ≡ es
   list-says = ap (λ (x : SwitchList). switches_meant x.entries x.count) h.list ∙ list-meant es
 
-  pub list-taken : (a : CallAnswer) → a ≡ CallCases.Taken → ListFor (answer_with a l) l
+  pub list-taken : (a : Result Unit Refusal) → a ≡ Ok tt → ListFor (answer_with a l) l
   list-taken a e = rw e (subst (λ (x : List SwitchEntry). ListFor (switched x) l) (sym list-says) h)
 
 -- the list of no moves is none

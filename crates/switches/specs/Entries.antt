@@ -1,11 +1,13 @@
 -- What one move makes of the entry of the core that it touches, and how a switch list stands in words.
-use Rattle.std.specs.Prelude.{ℕ, ◌-◌, ◌≤◌, ◌≡◌, List, ◌++◌, map, length, replicate}
+use Rattle.settings.specs.declared.Refusal.{Refusal}
+use Rattle.std.specs.Prelude.{ℕ, ◌-◌, ◌≤◌, ◌≡◌, List, ◌++◌, map, length, replicate, Result}
 use Rattle.std.proofs.Math.Option.{Option, none, some}
 use Rattle.model.specs.Types.{LeaveReason, Exit, Block, Yield, Quantum, Preempt, Forced, Move, starts, leaves, takes, Out, SwitchEntry}
-use Rattle.model.specs.declared.CallAnswer.{CallAnswer}
 use Rattle.model.specs.Reading.{switch_answer_meant}
 use Rattle.model.specs.Calls.{Answer, refused, ok, spawned, joined, switched}
 use Rattle.model.specs.declared.SwitchWords.{SwitchWords}
+use Rattle.model.specs.declared.CoreId.{CoreId}
+use Rattle.std.specs.Prelude as Answered
 use Rattle.switches.specs.declared.SwitchList.{SwitchList}
 
 -- the core that a move touches; 8: none
@@ -13,6 +15,11 @@ abbrev pub core_touched : Move → ℕ
 core_touched (starts t) = 8
 core_touched (leaves t i r) = i
 core_touched (takes t i) = i
+
+-- the same as the program answers it
+abbrev pub core_meant : Answered.Option CoreId → ℕ
+core_meant Answered.None = 8
+core_meant (Answered.Some core) = core.0
 
 -- 01: "One entry per core touched, …: thread out with reason, thread in."
 abbrev pub entry_after : Move → SwitchEntry → SwitchEntry
@@ -72,7 +79,7 @@ list_in (joined o) = no_switches
 list_in (switched es) = list_of es
 
 -- what a call says with a list beside it
-abbrev pub answer_with : CallAnswer → SwitchList → Answer
+abbrev pub answer_with : Result Unit Refusal → SwitchList → Answer
 answer_with a l = switch_answer_meant a l.entries l.count
 
 -- what is promised of the list beside an answer: it is the answer's, word by word, and whoever goes through it to its count stays within the eight

@@ -1,6 +1,6 @@
 -- What a core's turn is in each case that the code tells apart.
 -- Assumes nothing.
-use Prim.Native.Nat.{ℕ, zero, suc, ◌+◌, ◌-◌, ◌≤◌, ◌<◌}
+use Prim.Native.Nat.{ℕ, zero, suc, ◌-◌, ◌≤◌, ◌<◌}
 use mathlib.Core.Path.{◌≡◌, refl, sym, ap, ◌∙◌}
 use mathlib.Core.Bool.{Bool, true, false, cond, ◌&&◌, ◌||◌}
 use mathlib.Core.Option.{Option, none, some}
@@ -12,9 +12,11 @@ use lib.ListN.{length, get_or, set}
 use lib.Seq.{get_or-set_other}
 use Rattle.model.specs.Types.{Policy, Off, Fifo, RoundRobin, Priority, CoreState, Idle, Switching, Running, LeaveReason, Yield, Quantum, Core, Move, starts, leaves}
 use Rattle.model.specs.Phases.{Rules, Turn, unmoved, dispatch, dispatched_state, dispatch_moves, without, choose, pick_next, ceiling_for, filled, phase4, hand_over, sliced, phase1, phase2, switched_in, vacate, cleared, holder, leaves_for, phase3, unyielded, wants_hand_over, quantum_over, quantum_of, is_preemptive, ceiling_of, phase5}
-use Rattle.model.specs.Calls.{is_idle, is_switching}
+use Rattle.model.specs.Calls.{is_idle, is_running, is_switching}
 use Rattle.model.specs.Reading.{core_state_meant}
 use Rattle.model.specs.declared.CoreState as Program
+use Rattle.model.specs.declared.Tid.{Tid}
+use mathlib.Core.Logic.{◌⊎◌, inl, inr}
 use Rattle.model.specs.declared.CoreState.TheVariants
 use Rattle.queue.specs.Ready.{remove_at, Picked}
 use Rattle.queue.proofs.Scan.{behind, there}
@@ -81,29 +83,30 @@ pub vacate-stays : (i t : ℕ) (c : Core) (g : Option LeaveReason) (q : List ℕ
 unfolding vacate
 vacate-stays i t c g q m e = stays m (rw e)
 
+empty : (x : CoreState) → holder x ≡ none → x ≡ Idle
+empty Idle e = refl
+empty (Switching t l) e = cc
+empty (Running t l) e = cc
+
 module _ (i : ℕ) (s : Program.CoreState) (ex ex' bl bl' : List Bool) (y p : Bool) (q : List ℕ) (m : List Move) (ee : ex' ≡ set ex i false) (eb : bl' ≡ set bl i false) where
-  pub phase3-idle :
-      core_state_meant s ≡ Idle → (yi yi' : List Bool) → yi' ≡ set yi i false
+  pub phase3-empty :
+      holder (core_state_meant s) ≡ none → (yi yi' : List Bool) → yi' ≡ set yi i false
       → Turned (phase3 i (core_of s (get_or ex i false) (get_or bl i false) y p) q) (core_of s (get_or ex' i false) (get_or bl' i false) (get_or yi' i false) p) q m m
   unfolding phase3 vacate
-  phase3-idle x yi yi' ey =
-      rw x (record { core = λ k. record { state = Idle; exits = mark-cleared ex i ee k; blocks = mark-cleared bl i eb k; yields = mark-cleared yi i ey k; progressed = p }; queue = refl; moves = sym (append-nil m) })
+  phase3-empty x yi yi' ey =
+      rw x (record { core = λ k. record { state = empty (core_state_meant s) x k; exits = mark-cleared ex i ee k; blocks = mark-cleared bl i eb k; yields = mark-cleared yi i ey k; progressed = p }; queue = refl; moves = sym (append-nil m) })
 
   pub phase3-held :
-      (s' : Program.CoreState) → s ≡ s' → (t : ℕ) → holder (core_state_meant s') ≡ some t → (r : Program.CoreState) (y' : Bool) (q' : List ℕ) (m' : List Move)
-      → Turned (vacate i (core_of s' (get_or ex i false) (get_or bl i false) y p) (some t) (leaves_for (get_or ex i false) (get_or bl i false)) q) (core_of r false false y' p) q' m m'
+      (t : ℕ) → holder (core_state_meant s) ≡ some t → (r : Program.CoreState) (y' : Bool) (q' : List ℕ) (m' : List Move)
+      → Turned (vacate i (core_of s (get_or ex i false) (get_or bl i false) y p) (some t) (leaves_for (get_or ex i false) (get_or bl i false)) q) (core_of r false false y' p) q' m m'
       → Turned (phase3 i (core_of s (get_or ex i false) (get_or bl i false) y p) q) (core_of r (get_or ex' i false) (get_or bl' i false) y' p) q' m m'
   unfolding phase3
-  phase3-held s' z t x r y' q' m' d =
-      rw (z, x) (record { core = (λ k. core (core_state_meant r) (mark-cleared ex i ee k) (mark-cleared bl i eb k) y' p) ∙ d.core; queue = d.queue; moves = d.moves })
+  phase3-held t x r y' q' m' d =
+      rw x (record { core = (λ k. core (core_state_meant r) (mark-cleared ex i ee k) (mark-cleared bl i eb k) y' p) ∙ d.core; queue = d.queue; moves = d.moves })
 
 ---- phase 4
 
 module _ (k : Rules) (i : ℕ) (c : Core) (q : List ℕ) (m : List Move) where
-  pub phase4-busy : filled k i c c.state (pick_next k i none q) q ≡ unmoved c q → Turned (phase4 k i c q) c q m m
-  unfolding phase4
-  phase4-busy e = stays m e
-
   pub phase4-nobody : c.state ≡ Idle → (at : ℕ) → Picked (choose k.policy k.prio none q) q at → length q ≤ at → Turned (phase4 k i c q) c q m m
   unfolding phase4 filled pick_next
   phase4-nobody e at p l = stays m (rw (e, p.next, behind q at l))
@@ -150,12 +153,6 @@ module _ (k : Rules) (i t sl : ℕ) (c : Core) (r : LeaveReason) (q : List ℕ) 
         moves = w.moves ∙ ap (λ (x : LeaveReason). m ++ (leaves t i x ∷ dispatch_moves k.cost (get_or q at 0) i)) ec;
       })
 
-pub no_mode : (y a z : Bool) → y ≡ false → a ≡ false → false ≡ (y || (a && z))
-no_mode y a z e f = rw (e, f)
-
-pub by_mode : (y a z : Bool) → y ≡ false → a ≡ true → z ≡ (y || (a && z))
-by_mode y a z e f = rw (e, f)
-
 module _ (k : Rules) (i : ℕ) (s : Program.CoreState) (e b : Bool) (yi yi' : List Bool) (ey : yi' ≡ set yi i false) (p : Bool) (q : List ℕ) (m : List Move) where
   abbrev before : Core
   before = core_of s e b (get_or yi i false) p
@@ -180,7 +177,41 @@ module _ (k : Rules) (i : ℕ) (s : Program.CoreState) (e b : Bool) (yi yi' : Li
     unfolding phase5 quantum_over quantum_of
     phase5-goes f r p' q' m' h = rw (x, ← ew, f) (record { core = (λ j. core_of r e b (mark-cleared yi i ey j) p') ∙ (rw x at h.core); queue = rw x at h.queue; moves = rw x at h.moves })
 
+---- a core in one of two states
+
+abbrev OfTid : (Tid → ℕ → Program.CoreState) → Program.CoreState → Type 0
+OfTid f s = (t : Tid) × (n : ℕ) × (s ≡ f t n)
+
+pub idle_or_running : (s : Program.CoreState) → (s ≡ TheVariants.Idle) ⊎ OfTid TheVariants.Running s → is_switching (core_state_meant s) ≡ false
+idle_or_running s (inl e) = rw e
+idle_or_running s (inr (t, n, e)) = rw e
+
+pub switching_or_running : (s : Program.CoreState) → OfTid TheVariants.Switching s ⊎ OfTid TheVariants.Running s → is_idle (core_state_meant s) ≡ false
+switching_or_running s (inl (t, n, e)) = rw e
+switching_or_running s (inr (t, n, e)) = rw e
+
+pub idle_or_switching : (s : Program.CoreState) → (s ≡ TheVariants.Idle) ⊎ OfTid TheVariants.Switching s → is_running (core_state_meant s) ≡ false
+idle_or_switching s (inl e) = rw e
+idle_or_switching s (inr (t, n, e)) = rw e
+
 ---- turns that change nothing
+
+pub sliced-pass : (x : CoreState) → is_running x ≡ false → sliced x ≡ x
+unfolding sliced
+sliced-pass Idle h = refl
+sliced-pass (Switching t l) h = refl
+sliced-pass (Running t s) h = cc
+
+pub hand-over-pass : (k : Rules) (i : ℕ) (c : Core) (x : CoreState) (w : Bool) (next : Option ℕ) (r : LeaveReason) (q : List ℕ) → is_running x ≡ false → hand_over k i c x w next r q ≡ unmoved c q
+unfolding hand_over
+hand-over-pass k i c Idle w next r q h = refl
+hand-over-pass k i c (Switching t l) w next r q h = refl
+hand-over-pass k i c (Running t s) w next r q h = cc
+
+pub has_turn-pass : (x : CoreState) (y : Bool) (p : Policy) (u : ℕ) (g : Bool) → is_running x ≡ false → has_turn x y p u g ≡ y
+has_turn-pass Idle y p u g h = refl
+has_turn-pass (Switching t l) y p u g h = refl
+has_turn-pass (Running t s) y p u g h = cc
 
 pub phase2-pass : (i : ℕ) (x : CoreState) (e b y p : Bool) (q : List ℕ) → is_switching x ≡ false → phase2 i (core x e b y p) q ≡ unmoved (core x e b y p) q
 unfolding phase2 switched_in

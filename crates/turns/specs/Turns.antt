@@ -5,15 +5,23 @@ use Rattle.settings.specs.declared.SchedPolicy.{SchedPolicy}
 use Rattle.model.specs.Types.{Policy, CoreState, Idle, Switching, Running, Core, Move}
 use Rattle.model.specs.Phases.{Rules, Turn, is_preemptive}
 use Rattle.model.specs.Reading.{core_state_meant}
-use Rattle.model.specs.declared.CoreState as Program
+use Rattle.model.specs.declared.CoreState as States
 use Rattle.queue.specs.Ready.{prio_of}
+use Rattle.turns.specs.declared.Rules as Program
 
 -- one core, from its state and its four marks
-abbrev pub core_of : Program.CoreState → (exits blocks yields progressed : Bool) → Core
+abbrev pub core_of : States.CoreState → (exits blocks yields progressed : Bool) → Core
 core_of s e b y p = record { state = core_state_meant s; exits = e; blocks = b; yields = y; progressed = p }
 
 abbrev pub rules_of : SchedPolicy → (quantum cost : ℕ) → (prios : List ℕ) → Rules
 rules_of p q w ps = record { policy = policy_meant p; quantum = q; cost = w; prio = prio_of ps }
+
+-- the program's rules, and the same with another quantum
+abbrev pub with_quantum : Program.Rules → (quantum : ℕ) → Rules
+with_quantum r u = rules_of r.policy u r.cost r.prios.now
+
+abbrev pub rules_meant : Program.Rules → Rules
+rules_meant r = with_quantum r r.quantum
 
 -- marks of which only core i's may have changed
 abbrev pub Besides : ℕ → (old new : List Bool) → Type 0

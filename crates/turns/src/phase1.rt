@@ -11,10 +11,9 @@ pub fn phase1_on(s: CoreState) -> CoreState
     ensures { core_state_meant result ≡ sliced (core_state_meant s) }
 {
     match s {
-        CoreState::Idle => s,
-        CoreState::Switching { tid: _, left: _ } => s,
+        CoreState::Idle | CoreState::Switching { .. } => s,
         CoreState::Running { tid, slice } => CoreState::Running {
-            tid: tid,
+            tid,
             slice: slice + 1,
         },
     }

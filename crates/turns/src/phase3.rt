@@ -1,11 +1,15 @@
 // Phase 3 on one core: "Threads that exited or blocked this tick leave ..; their core's yield mark goes with them."
-ghost use Rattle.std.specs.Prelude.{◌≡◌, Bool, false, ◌||◌, ◌<◌, ◌≤◌, length, get_or, take};
+ghost use Rattle.std.specs.Prelude.{◌≡◌, Bool, false, ◌||◌, ◌<◌, ◌≤◌, length, get_or};
 ghost use Rattle.std.proofs.Math.Option.{some};
 ghost use Rattle.model.specs.Phases.{vacate, leaves_for, phase3};
-ghost use Rattle.queue.specs.Words.{moves_in, Appended, NoLonger};
+ghost use Rattle.queue.specs.Words.{made, Appended, NoLonger, StillLent};
+ghost use Rattle.queue.specs.Ready.{waiting};
 ghost use Rattle.turns.specs.Turns.{core_of, Turned, Besides};
 
+use crate::Marks;
 use model::{CoreId, CoreState, LeaveReason, Tid};
+use queue::moves::Moves;
+use queue::ready::ReadyQueue;
 
 // The thread that holds the core leaves it if it exited or blocked.
 pub fn vacate_marked(
@@ -15,25 +19,25 @@ pub fn vacate_marked(
     exits: bool,
     blocks: bool,
     yields: &mut [bool; 8],
-    queue: &mut [u32],
-    len: &mut usize,
-    out: &mut [u64],
-    count: &mut usize,
+    queue: &mut ReadyQueue,
+    moves: &mut Moves,
 ) -> CoreState
-    requires { (core.0 < 8) × (len.old ≤ length queue.old) × (count.old < length out.old) }
-    ensures turn { (p : Bool) → Turned (vacate core.0 (core_of s exits blocks (get_or yields.old core.0 false) p) (some tid.0) (leaves_for exits blocks) (take len.old queue.old)) (core_of result false false (get_or yields.new core.0 false) p) (take len.new queue.new) (moves_in out.old count.old) (moves_in out.new count.new) }
+    requires { (core.0 < 8) × (queue.old.len ≤ length queue.old.words.now) × (moves.old.count < length moves.old.words.now) }
+    ensures turn { (p : Bool) → Turned (vacate core.0 (core_of s exits blocks (get_or yields.old core.0 false) p) (some tid.0) (leaves_for exits blocks) (waiting queue.old)) (core_of result false false (get_or yields.new core.0 false) p) (waiting queue.new) (made moves.old) (made moves.new) }
     ensures besides { Besides core.0 yields.old yields.new }
-    ensures queue { NoLonger len.old len.new queue.old queue.new }
-    ensures out { Appended 1 count.old count.new out.old out.new }
+    ensures queue { NoLonger queue.old.len queue.new.len queue.old.words.now queue.new.words.now }
+    ensures out { Appended 1 moves.old.count moves.new.count moves.old.words.now moves.new.words.now }
+    ensures lent { StillLent queue.old.words queue.new.words }
+    ensures lent_moves { StillLent moves.old.words moves.new.words }
 {
     let i = core.0 as usize;
     if exits {
         yields[i] = false;
-        return dispatch::vacate(core, tid, LeaveReason::Exit, queue, len, out, count);
+        return dispatch::vacate(core, tid, LeaveReason::Exit, queue, moves);
     }
     if blocks {
         yields[i] = false;
-        return dispatch::vacate(core, tid, LeaveReason::Block, queue, len, out, count);
+        return dispatch::vacate(core, tid, LeaveReason::Block, queue, moves);
     }
     s
 }
@@ -41,36 +45,30 @@ pub fn vacate_marked(
 pub fn phase3_on(
     s: CoreState,
     core: CoreId,
-    exits: &mut [bool; 8],
-    blocks: &mut [bool; 8],
-    yields: &mut [bool; 8],
-    queue: &mut [u32],
-    len: &mut usize,
-    out: &mut [u64],
-    count: &mut usize,
+    marks: &mut Marks,
+    queue: &mut ReadyQueue,
+    moves: &mut Moves,
 ) -> CoreState
-    requires { (core.0 < 8) × (len.old ≤ length queue.old) × (count.old < length out.old) }
-    ensures turn { (p : Bool) → Turned (phase3 core.0 (core_of s (get_or exits.old core.0 false) (get_or blocks.old core.0 false) (get_or yields.old core.0 false) p) (take len.old queue.old)) (core_of result (get_or exits.new core.0 false) (get_or blocks.new core.0 false) (get_or yields.new core.0 false) p) (take len.new queue.new) (moves_in out.old count.old) (moves_in out.new count.new) }
-    ensures besides { (Besides core.0 exits.old exits.new) × (Besides core.0 blocks.old blocks.new) × (Besides core.0 yields.old yields.new) }
-    ensures queue { NoLonger len.old len.new queue.old queue.new }
-    ensures out { Appended 1 count.old count.new out.old out.new }
+    requires { (core.0 < 8) × (queue.old.len ≤ length queue.old.words.now) × (moves.old.count < length moves.old.words.now) }
+    ensures turn { (p : Bool) → Turned (phase3 core.0 (core_of s (get_or marks.old.exits core.0 false) (get_or marks.old.blocks core.0 false) (get_or marks.old.yields core.0 false) p) (waiting queue.old)) (core_of result (get_or marks.new.exits core.0 false) (get_or marks.new.blocks core.0 false) (get_or marks.new.yields core.0 false) p) (waiting queue.new) (made moves.old) (made moves.new) }
+    ensures besides { (Besides core.0 marks.old.exits marks.new.exits) × (Besides core.0 marks.old.blocks marks.new.blocks) × (Besides core.0 marks.old.yields marks.new.yields) }
+    ensures progressed { marks.new.progressed ≡ marks.old.progressed }
+    ensures queue { NoLonger queue.old.len queue.new.len queue.old.words.now queue.new.words.now }
+    ensures out { Appended 1 moves.old.count moves.new.count moves.old.words.now moves.new.words.now }
+    ensures lent { StillLent queue.old.words queue.new.words }
+    ensures lent_moves { StillLent moves.old.words moves.new.words }
 {
     let i = core.0 as usize;
-    let e = exits[i];
-    let b = blocks[i];
-    exits[i] = false;
-    blocks[i] = false;
-    match s {
-        CoreState::Idle => {
-            yields[i] = false;
+    let exits = marks.exits[i];
+    let blocks = marks.blocks[i];
+    marks.exits[i] = false;
+    marks.blocks[i] = false;
+    match s.tid() {
+        None => {
+            marks.yields[i] = false;
             s
         }
-        CoreState::Switching { tid, left: _ } => vacate_marked(
-            s, core, tid, e, b, yields, queue, len, out, count,
-        ),
-        CoreState::Running { tid, slice: _ } => vacate_marked(
-            s, core, tid, e, b, yields, queue, len, out, count,
-        ),
+        Some(tid) => vacate_marked(s, core, tid, exits, blocks, &mut marks.yields, queue, moves),
     }
 }
 
@@ -78,11 +76,5 @@ pub fn phase3_on(
 pub fn is_marked(exits: bool, blocks: bool, yields: bool) -> bool
     ensures { result ≡ (exits || (blocks || yields)) }
 {
-    if exits {
-        return true;
-    }
-    if blocks {
-        return true;
-    }
-    yields
+    exits || blocks || yields
 }

@@ -1,42 +1,45 @@
 // Phase 4 on one core: "Idle cores take the next thread."
-ghost use Rattle.std.specs.Prelude.{Bool, false, ℕ, ◌+◌, ◌<◌, ◌≤◌, length, get_or, take};
+ghost use Rattle.std.specs.Prelude.{Bool, false, ℕ, ◌+◌, ◌<◌, ◌≤◌, length, get_or};
 ghost use Rattle.model.specs.Phases.{phase4};
-ghost use Rattle.queue.specs.Words.{moves_in, Appended, NoLonger};
-ghost use Rattle.turns.specs.Turns.{core_of, rules_of, Turned, Besides};
+ghost use Rattle.queue.specs.Words.{made, Appended, NoLonger, StillLent};
+ghost use Rattle.queue.specs.Ready.{waiting};
+ghost use Rattle.turns.specs.Turns.{core_of, with_quantum, Turned, Besides};
 
+use crate::Rules;
 use model::{CoreId, CoreState};
-use queue::{pick, ready};
-use settings::SchedPolicy;
+use queue::moves::Moves;
+use queue::pick;
+use queue::ready::ReadyQueue;
 
 pub fn phase4_on(
     s: CoreState,
     core: CoreId,
-    policy: SchedPolicy,
-    cost: u32,
-    prios: &[u32],
+    rules: &Rules,
     progressed: &mut [bool; 8],
-    queue: &mut [u32],
-    len: &mut usize,
-    out: &mut [u64],
-    count: &mut usize,
+    queue: &mut ReadyQueue,
+    moves: &mut Moves,
 ) -> CoreState
-    requires { (core.0 < 8) × (len.old ≤ length queue.old) × (count.old + 2 ≤ length out.old) }
-    ensures turn { (u : ℕ) (e b y : Bool) → Turned (phase4 (rules_of policy u cost prios.now) core.0 (core_of s e b y (get_or progressed.old core.0 false)) (take len.old queue.old)) (core_of result e b y (get_or progressed.new core.0 false)) (take len.new queue.new) (moves_in out.old count.old) (moves_in out.new count.new) }
+    requires { (core.0 < 8) × (queue.old.len ≤ length queue.old.words.now) × (moves.old.count + 2 ≤ length moves.old.words.now) }
+    ensures turn { (u : ℕ) (e b y : Bool) → Turned (phase4 (with_quantum rules.now u) core.0 (core_of s e b y (get_or progressed.old core.0 false)) (waiting queue.old)) (core_of result e b y (get_or progressed.new core.0 false)) (waiting queue.new) (made moves.old) (made moves.new) }
     ensures besides { Besides core.0 progressed.old progressed.new }
-    ensures queue { NoLonger len.old len.new queue.old queue.new }
-    ensures out { Appended 2 count.old count.new out.old out.new }
+    ensures queue { NoLonger queue.old.len queue.new.len queue.old.words.now queue.new.words.now }
+    ensures out { Appended 2 moves.old.count moves.new.count moves.old.words.now moves.new.words.now }
+    ensures lent { StillLent queue.old.words queue.new.words }
+    ensures lent_moves { StillLent moves.old.words moves.new.words }
 {
     match s {
-        CoreState::Idle => {
-            let n = *len;
-            let k = pick::pick_next(policy, prios, queue, n, 4294967295);
-            if n <= k {
-                return s;
+        CoreState::Idle => match pick::pick_next(
+            rules.policy,
+            rules.prios,
+            queue.waiting(),
+            4294967295,
+        ) {
+            None => s,
+            Some(k) => {
+                let next = queue.take_at(k);
+                dispatch::dispatch(core, next, rules.cost, progressed, moves)
             }
-            let next = ready::take_at(queue, len, k);
-            dispatch::dispatch(core, next, cost, progressed, out, count)
-        }
-        CoreState::Switching { tid: _, left: _ } => s,
-        CoreState::Running { tid: _, slice: _ } => s,
+        },
+        CoreState::Switching { .. } | CoreState::Running { .. } => s,
     }
 }

@@ -1,37 +1,24 @@
 // Phase 5 on one core: "A running core that yielded, or whose slice ≥ quantum with its progressed mark set under rr or priority, hands over."
-ghost use Rattle.std.specs.Prelude.{◌≡◌, Bool, true, false, cond, ◌&&◌, ◌||◌, ℕ, ◌+◌, ◌<◌, ◌≤◌, leb, length, get_or, take};
+ghost use Rattle.std.specs.Prelude.{◌≡◌, Bool, true, false, cond, ◌&&◌, ◌||◌, ℕ, ◌+◌, ◌<◌, ◌≤◌, leb, length, get_or};
 ghost use Rattle.settings.specs.Reading.{policy_meant};
 ghost use Rattle.model.specs.Types.{Yield, Quantum, Running};
 ghost use Rattle.model.specs.Reading.{core_state_meant, reason_meant};
 ghost use Rattle.model.specs.Phases.{is_preemptive, hand_over, pick_next, ceiling_for, phase5};
-ghost use Rattle.queue.specs.Words.{moves_in, Appended, NoLonger};
-ghost use Rattle.queue.specs.Ready.{prio_of};
-ghost use Rattle.turns.specs.Turns.{core_of, rules_of, Turned, Besides, has_turn};
+ghost use Rattle.queue.specs.Words.{made, Appended, NoLonger, StillLent};
+ghost use Rattle.queue.specs.Ready.{prio_of, waiting};
+ghost use Rattle.turns.specs.Turns.{core_of, rules_meant, with_quantum, Turned, Besides, has_turn};
 
+use crate::{Marks, Rules};
 use model::{CoreId, CoreState, LeaveReason, Tid};
+use queue::moves::Moves;
 use queue::pick;
-use settings::SchedPolicy;
+use queue::ready::ReadyQueue;
 
 // Whether a running core is to hand over.
-pub fn wants_hand_over(
-    yields: bool,
-    policy: SchedPolicy,
-    quantum: u32,
-    slice: u32,
-    progressed: bool,
-) -> bool
-    ensures { result ≡ (yields || (is_preemptive (policy_meant policy) && (leb quantum slice && progressed))) }
+pub fn wants_hand_over(yields: bool, rules: &Rules, slice: u32, progressed: bool) -> bool
+    ensures { result ≡ (yields || (is_preemptive (policy_meant rules.now.policy) && (leb rules.now.quantum slice && progressed))) }
 {
-    if yields {
-        return true;
-    }
-    if !policy.is_preemptive() {
-        return false;
-    }
-    if slice < quantum {
-        return false;
-    }
-    progressed
+    yields || (rules.policy.is_preemptive() && rules.quantum <= slice && progressed)
 }
 
 // Yield outranks quantum as reason.
@@ -50,94 +37,81 @@ pub fn hand_over(
     core: CoreId,
     tid: Tid,
     yielded: bool,
-    policy: SchedPolicy,
-    cost: u32,
-    prios: &[u32],
+    rules: &Rules,
     progressed: &mut [bool; 8],
-    queue: &mut [u32],
-    len: &mut usize,
-    out: &mut [u64],
-    count: &mut usize,
+    queue: &mut ReadyQueue,
+    moves: &mut Moves,
 ) -> CoreState
-    requires { (core.0 < 8) × (len.old ≤ length queue.old) × (count.old + 3 ≤ length out.old) }
-    ensures turn { (u sl : ℕ) (s : CoreState) (e b y : Bool) → Turned (hand_over (rules_of policy u cost prios.now) core.0 (core_of s e b y (get_or progressed.old core.0 false)) (Running tid.0 sl) true (pick_next (rules_of policy u cost prios.now) core.0 (ceiling_for (policy_meant policy) (prio_of prios.now tid.0)) (take len.old queue.old)) (cond yielded Yield Quantum) (take len.old queue.old)) (core_of result e b y (get_or progressed.new core.0 false)) (take len.new queue.new) (moves_in out.old count.old) (moves_in out.new count.new) }
+    requires { (core.0 < 8) × (queue.old.len ≤ length queue.old.words.now) × (moves.old.count + 3 ≤ length moves.old.words.now) }
+    ensures turn { (u sl : ℕ) (s : CoreState) (e b y : Bool) → Turned (hand_over (with_quantum rules.now u) core.0 (core_of s e b y (get_or progressed.old core.0 false)) (Running tid.0 sl) true (pick_next (with_quantum rules.now u) core.0 (ceiling_for (policy_meant rules.now.policy) (prio_of rules.now.prios.now tid.0)) (waiting queue.old)) (cond yielded Yield Quantum) (waiting queue.old)) (core_of result e b y (get_or progressed.new core.0 false)) (waiting queue.new) (made moves.old) (made moves.new) }
     ensures besides { Besides core.0 progressed.old progressed.new }
-    ensures queue { NoLonger len.old len.new queue.old queue.new }
-    ensures out { Appended 3 count.old count.new out.old out.new }
+    ensures queue { NoLonger queue.old.len queue.new.len queue.old.words.now queue.new.words.now }
+    ensures out { Appended 3 moves.old.count moves.new.count moves.old.words.now moves.new.words.now }
+    ensures lent { StillLent queue.old.words queue.new.words }
+    ensures lent_moves { StillLent moves.old.words moves.new.words }
 {
-    let n = *len;
-    let ceiling = pick::priority_of(prios, tid);
-    let k = pick::pick_next(policy, prios, queue, n, ceiling);
-    if n <= k {
-        return CoreState::Running { tid: tid, slice: 0 };
+    let ceiling = pick::priority_of(rules.prios, tid);
+    match pick::pick_next(rules.policy, rules.prios, queue.waiting(), ceiling) {
+        None => CoreState::Running { tid, slice: 0 },
+        Some(k) => dispatch::swap(
+            core,
+            tid,
+            hand_over_reason(yielded),
+            k,
+            rules.cost,
+            progressed,
+            queue,
+            moves,
+        ),
     }
-    dispatch::swap(
-        core,
-        tid,
-        hand_over_reason(yielded),
-        k,
-        cost,
-        progressed,
-        queue,
-        len,
-        out,
-        count,
-    )
 }
 
 pub fn phase5_on(
     s: CoreState,
     core: CoreId,
-    policy: SchedPolicy,
-    quantum: u32,
-    cost: u32,
-    prios: &[u32],
-    yields: &mut [bool; 8],
-    progressed: &mut [bool; 8],
-    queue: &mut [u32],
-    len: &mut usize,
-    out: &mut [u64],
-    count: &mut usize,
+    rules: &Rules,
+    marks: &mut Marks,
+    queue: &mut ReadyQueue,
+    moves: &mut Moves,
 ) -> CoreState
-    requires { (core.0 < 8) × (len.old ≤ length queue.old) × (count.old + 3 ≤ length out.old) }
-    ensures turn { (e b : Bool) → Turned (phase5 (rules_of policy quantum cost prios.now) core.0 (core_of s e b (get_or yields.old core.0 false) (get_or progressed.old core.0 false)) (take len.old queue.old)) (core_of result e b (get_or yields.new core.0 false) (get_or progressed.new core.0 false)) (take len.new queue.new) (moves_in out.old count.old) (moves_in out.new count.new) }
-    ensures besides { (Besides core.0 yields.old yields.new) × (Besides core.0 progressed.old progressed.new) }
-    ensures queue { NoLonger len.old len.new queue.old queue.new }
-    ensures out { Appended 3 count.old count.new out.old out.new }
+    requires { (core.0 < 8) × (queue.old.len ≤ length queue.old.words.now) × (moves.old.count + 3 ≤ length moves.old.words.now) }
+    ensures turn { (e b : Bool) → Turned (phase5 (rules_meant rules.now) core.0 (core_of s e b (get_or marks.old.yields core.0 false) (get_or marks.old.progressed core.0 false)) (waiting queue.old)) (core_of result e b (get_or marks.new.yields core.0 false) (get_or marks.new.progressed core.0 false)) (waiting queue.new) (made moves.old) (made moves.new) }
+    ensures besides { (Besides core.0 marks.old.yields marks.new.yields) × (Besides core.0 marks.old.progressed marks.new.progressed) }
+    ensures others { (marks.new.exits ≡ marks.old.exits) × (marks.new.blocks ≡ marks.old.blocks) }
+    ensures queue { NoLonger queue.old.len queue.new.len queue.old.words.now queue.new.words.now }
+    ensures out { Appended 3 moves.old.count moves.new.count moves.old.words.now moves.new.words.now }
+    ensures lent { StillLent queue.old.words queue.new.words }
+    ensures lent_moves { StillLent moves.old.words moves.new.words }
 {
     let i = core.0 as usize;
-    let y = yields[i];
-    let p = progressed[i];
-    yields[i] = false;
+    let yielded = marks.yields[i];
+    let progressed = marks.progressed[i];
+    marks.yields[i] = false;
     match s {
-        CoreState::Idle => s,
-        CoreState::Switching { tid: _, left: _ } => s,
+        CoreState::Idle | CoreState::Switching { .. } => s,
         CoreState::Running { tid, slice } => {
-            if !wants_hand_over(y, policy, quantum, slice, p) {
+            if !wants_hand_over(yielded, rules, slice, progressed) {
                 return s;
             }
             hand_over(
-                core, tid, y, policy, cost, prios, progressed, queue, len, out, count,
+                core,
+                tid,
+                yielded,
+                rules,
+                &mut marks.progressed,
+                queue,
+                moves,
             )
         }
     }
 }
 
 // Whether phase 5 changes anything of a core.
-pub fn has_turn(
-    s: CoreState,
-    yields: bool,
-    policy: SchedPolicy,
-    quantum: u32,
-    progressed: bool,
-) -> bool
-    ensures { result ≡ has_turn (core_state_meant s) yields (policy_meant policy) quantum progressed }
+pub fn has_turn(s: CoreState, yields: bool, rules: &Rules, progressed: bool) -> bool
+    ensures { result ≡ has_turn (core_state_meant s) yields (policy_meant rules.now.policy) rules.now.quantum progressed }
 {
     match s {
-        CoreState::Idle => yields,
-        CoreState::Switching { tid: _, left: _ } => yields,
-        CoreState::Running { tid: _, slice } => wants_hand_over(
-            yields, policy, quantum, slice, progressed,
-        ),
+        CoreState::Idle | CoreState::Switching { .. } => yields,
+        CoreState::Running { slice, .. } => wants_hand_over(yields, rules, slice, progressed),
     }
 }

@@ -1,31 +1,20 @@
--- `dispatch::dispatch` meets its contract. Assumes nothing.
-use native.Mathlib.Omega.{arith}
-use mathlib.Core.Path.{refl, ap, ◌∙◌}
+use mathlib.Core.Path.{ap, ◌∙◌}
 use mathlib.Core.List.{List, ◌++◌}
 use Rattle.model.specs.Types.{Move}
-use Rattle.queue.specs.Words.{moves_in}
-use Rattle.queue.proofs.Frames.{appended-both, appended-room}
+use Rattle.queue.specs.Words.{made}
 use Rattle.dispatch.proofs.Leaving.{two, free, dear}
 use Rattle.dispatch.proofs.dispatch.Goals as goal
 
-pub returns-then-cost-eq0 : goal.returns-then-cost-eq0
-returns-then-cost-eq0 c =
-    let z = free c.args.cost c.args.tid.0 c.args.core.0 c.if-cost-eq0.true in
-    let m = moves_in c.args.out.now c.args.count.now in
-    record {
-      state = z.0;
-      mark = refl;
-      moves = two m _ _ _ _ c.push_move.ensures.moves c.push_move-then-cost-eq0.ensures.moves ∙ ap (λ (l : List Move). m ++ l) z.1;
-      out = appended-both 2 c.push_move.ensures.out c.push_move-then-cost-eq0.ensures.out (omega arith);
-    }
+pub returns-then-cost-eq0-clause-state : goal.returns-then-cost-eq0-clause-state
+returns-then-cost-eq0-clause-state c = (free c.args.cost c.args.tid.0 c.args.core.0 c.if-cost-eq0.true).0
 
-pub returns : goal.returns
-returns c =
-    let z = dear c.args.cost c.args.tid.0 c.args.core.0 c.if-cost-eq0.false in
-    let m = moves_in c.args.out.now c.args.count.now in
-    record {
-      state = z.0;
-      mark = refl;
-      moves = c.push_move.ensures.moves ∙ ap (λ (l : List Move). m ++ l) z.1;
-      out = appended-room 2 c.push_move.ensures.out (omega arith);
-    }
+pub returns-then-cost-eq0-clause-moves : goal.returns-then-cost-eq0-clause-moves
+returns-then-cost-eq0-clause-moves c =
+    let m = made c.args.moves.now in
+    two m _ _ _ _ c.push.ensures.moves c.push-then-cost-eq0.ensures.moves ∙ ap (λ (l : List Move). m ++ l) (free c.args.cost c.args.tid.0 c.args.core.0 c.if-cost-eq0.true).1
+
+pub returns-clause-state : goal.returns-clause-state
+returns-clause-state c = (dear c.args.cost c.args.tid.0 c.args.core.0 c.if-cost-eq0.false).0
+
+pub returns-clause-moves : goal.returns-clause-moves
+returns-clause-moves c = c.push.ensures.moves ∙ ap (λ (l : List Move). made c.args.moves.now ++ l) (dear c.args.cost c.args.tid.0 c.args.core.0 c.if-cost-eq0.false).1

@@ -1,5 +1,4 @@
 -- `preempt::least_urgent` meets its contract. Assumes nothing.
-use Prim.Native.Nat.{◌≤◌, ◌-◌}
 use mathlib.Core.Bool.{Bool}
 use mathlib.Core.List.{List}
 use Rattle.queue.specs.Ready.{prio_of}
@@ -7,7 +6,4 @@ use Rattle.preempt.proofs.Victims.{Seek}
 use Rattle.preempt.proofs.least_urgent.Given as goal
 
 abbrev pub invariant-loop-i : goal.invariant-loop-i
-invariant-loop-i l = (l.i ≤ l.n) × ((ex bl yi pr : List Bool) → Seek (prio_of l.prios) l.n l.cs ex bl yi pr l.i l.at l.high)
-
-abbrev pub decreases-loop-i : goal.decreases-loop-i
-decreases-loop-i l = l.n - l.i
+invariant-loop-i l = (ex bl yi pr : List Bool) → Seek (prio_of l.prios) l.cores ex bl yi pr l.i l.least l.high

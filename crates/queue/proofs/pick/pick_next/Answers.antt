@@ -1,29 +1,32 @@
--- `queue::pick::pick_next` meets its contract. Assumes nothing.
+use mathlib.Core.Path.{◌≡◌}
+use mathlib.Core.Logic.{◌⊎◌, inl, inr}
+use mathlib.Core.Option.{Option}
+use mathlib.Core.List.{List}
+use Prim.Native.Nat.{ℕ}
 use Rattle.model.specs.Phases.{choose, eligible}
-use Rattle.queue.proofs.Scan.{front}
+use Rattle.settings.specs.Reading.{policy_meant}
+use Rattle.settings.specs.declared.SchedPolicy.{SchedPolicy}
+use Rattle.settings.specs.declared.SchedPolicy.TheVariants.{Off, Fifo, RoundRobin}
+use Rattle.queue.specs.Ready.{front}
 use Rattle.queue.proofs.pick.pick_next.Goals as goal
 
+-- these three take the front
+in_order : (p : SchedPolicy) (pr : ℕ → ℕ) (o : Option ℕ) (q : List ℕ) → (p ≡ Off) ⊎ ((p ≡ Fifo) ⊎ (p ≡ RoundRobin)) → choose (policy_meant p) pr o q ≡ front q
+unfolding choose
+in_order p pr o q (inl e) = rw e
+in_order p pr o q (inr (inl e)) = rw e
+in_order p pr o q (inr (inr e)) = rw e
+
 pub returns-in-Off : goal.returns-in-Off
-unfolding choose
 returns-in-Off c = record {
-  under = rw c.in-Off.is (front _);
-  any = rw c.in-Off.is (λ e. front _);
+  under = rw (in_order c.args.policy _ _ _ c.in-Off.is) c.front.ensures;
+  any = λ e. rw (in_order c.args.policy _ _ _ c.in-Off.is) c.front.ensures;
 }
 
-pub returns-in-Fifo : goal.returns-in-Fifo
-unfolding choose
-returns-in-Fifo c = record {
-  under = rw c.in-Fifo.is (front _);
-  any = rw c.in-Fifo.is (λ e. front _);
-}
-
-pub returns-in-RoundRobin : goal.returns-in-RoundRobin
-unfolding choose
-returns-in-RoundRobin c = record {
-  under = rw c.in-RoundRobin.is (front _);
-  any = rw c.in-RoundRobin.is (λ e. front _);
-}
-
-pub returns-in-Priority : goal.returns-in-Priority
+pub returns-in-Priority-clause-under : goal.returns-in-Priority-clause-under
 unfolding choose eligible
-returns-in-Priority c = rw c.in-Priority.is c.most_urgent.ensures
+returns-in-Priority-clause-under c = rw c.in-Priority.is c.most_urgent.ensures.under
+
+pub returns-in-Priority-clause-any : goal.returns-in-Priority-clause-any
+unfolding choose eligible
+returns-in-Priority-clause-any c = rw c.in-Priority.is c.most_urgent.ensures.any

@@ -1,19 +1,11 @@
--- `turns::phase1::phase1_on` meets its contract. Assumes nothing.
-use native.Mathlib.Omega.{arith}
+use mathlib.Core.Path.{sym}
 use native.Mathlib.Numerals.{add-one}
 use Rattle.model.specs.Phases.{sliced}
+use Rattle.turns.proofs.Steps.{idle_or_switching, sliced-pass}
 use Rattle.turns.proofs.phase1.phase1_on.Goals as goal
 
-pub overflow_add-result : goal.overflow_add-result
-overflow_add-result c = omega (arith, rw c.in-Running.is at c.requires)
-
 pub returns-in-Idle : goal.returns-in-Idle
-unfolding sliced
-returns-in-Idle c = rw c.in-Idle.is
-
-pub returns-in-Switching : goal.returns-in-Switching
-unfolding sliced
-returns-in-Switching c = rw c.in-Switching.is
+returns-in-Idle c = sym (sliced-pass _ (idle_or_switching c.args.s c.in-Idle.is))
 
 pub returns-in-Running : goal.returns-in-Running
 unfolding sliced

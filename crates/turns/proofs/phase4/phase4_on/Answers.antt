@@ -1,52 +1,33 @@
--- `turns::phase4::phase4_on` meets its contract. Assumes nothing.
+use native.Mathlib.Omega.{arith}
 use mathlib.Core.Path.{refl, ap}
 use mathlib.Core.Bool.{false}
-use lib.ListN.{take, get_or}
-use Rattle.model.specs.Phases.{filled}
+use lib.ListN.{get_or, length}
 use Rattle.model.specs.Reading.{core_state_meant}
-use Rattle.queue.specs.Words.{moves_in}
-use Rattle.queue.proofs.Scan.{past, inside}
-use Rattle.queue.proofs.Frames.{appended-none, no-longer-same, no-longer-taken}
-use Rattle.turns.specs.Turns.{core_of, rules_of}
-use Rattle.turns.proofs.Steps.{besides, besides-same, phase4-busy, phase4-nobody, phase4-some}
+use Rattle.queue.specs.Words.{made}
+use Rattle.queue.specs.Ready.{waiting}
+use Rattle.queue.proofs.Frames.{still-lent, appended-none, no-longer-same}
+use Rattle.turns.specs.Turns.{core_of, with_quantum}
+use Rattle.turns.proofs.Steps.{besides-same, stays, switching_or_running, phase4-nobody, phase4-some, phase4-pass}
 use Rattle.turns.proofs.phase4.phase4_on.Goals as goal
 
-pub returns-then-n-k : goal.returns-then-n-k
-returns-then-n-k c =
-    let q = take c.args.len.now c.args.queue.now in
-    let m = moves_in c.args.out.now c.args.count.now in
-    record {
-      turn = λ u e b y. phase4-nobody (rules_of c.args.policy u c.args.cost c.args.prios.now) c.args.core.0 (core_of c.args.s e b y (get_or c.args.progressed.now c.args.core.0 false)) q m (ap core_state_meant c.in-Idle.is) c.pick_next-k.result (c.pick_next-k.ensures.any refl) (past c.args.queue.now c.args.len.now c.pick_next-k.result c.if-n-k.true);
-      besides = besides-same c.args.progressed.now c.args.core.0;
-      queue = no-longer-same c.args.len.now c.args.queue.now;
-      out = appended-none 2 c.args.count.now c.args.out.now;
-    }
+pub returns-in-None-clause-turn : goal.returns-in-None-clause-turn
+returns-in-None-clause-turn c =
+    let q = waiting c.args.queue.now in
+    let p = rw c.waiting.ensures at (c.in-None.ensures.any refl) in
+    λ u e b y. phase4-nobody (with_quantum c.args.rules.now u) c.args.core.0 (core_of c.args.s e b y (get_or c.args.progressed.now c.args.core.0 false)) q (made c.args.moves.now) (ap core_state_meant c.in-Idle.is) (length q) p.picked (omega arith)
 
-pub returns-else-n-k : goal.returns-else-n-k
-returns-else-n-k c =
-    let q = take c.args.len.now c.args.queue.now in
-    let m = moves_in c.args.out.now c.args.count.now in
-    record {
-      turn = λ u e b y. phase4-some (rules_of c.args.policy u c.args.cost c.args.prios.now) c.args.core.0 (core_of c.args.s e b y (get_or c.args.progressed.now c.args.core.0 false)) q m (ap core_state_meant c.in-Idle.is) c.pick_next-k.result (c.pick_next-k.ensures.any refl) (inside c.args.queue.now c.args.len.now c.pick_next-k.result c.requires.1 c.if-n-k.false) c.take_at-next.result.0 c.take_at-next.ensures.thread c.args.progressed.now _ c.dispatch.result _ _ c.take_at-next.ensures.left c.dispatch.ensures.state c.dispatch.ensures.mark c.dispatch.ensures.moves;
-      besides = besides c.args.progressed.now c.args.core.0 c.dispatch.ensures.mark;
-      queue = no-longer-taken _ _ c.args.queue.now _ c.take_at-next.ensures.len c.take_at-next.ensures.behind;
-      out = c.dispatch.ensures.out;
-    }
+pub returns-in-Some-clause-turn : goal.returns-in-Some-clause-turn
+returns-in-Some-clause-turn c =
+    let q = waiting c.args.queue.now in
+    let p = rw c.waiting.ensures at (c.in-Some.ensures.any refl) in
+    λ u e b y. phase4-some (with_quantum c.args.rules.now u) c.args.core.0 (core_of c.args.s e b y (get_or c.args.progressed.now c.args.core.0 false)) q (made c.args.moves.now) (ap core_state_meant c.in-Idle.is) c.in-Some.k p.picked p.within c.take_at-next.result.0 c.take_at-next.ensures.thread c.args.progressed.now _ c.dispatch.result _ _ c.take_at-next.ensures.left c.dispatch.ensures.state c.dispatch.ensures.mark c.dispatch.ensures.moves
 
 pub returns-in-Switching : goal.returns-in-Switching
-unfolding filled
 returns-in-Switching c = record {
-  turn = λ u e b y. phase4-busy (rules_of c.args.policy u c.args.cost c.args.prios.now) c.args.core.0 (core_of c.args.s e b y (get_or c.args.progressed.now c.args.core.0 false)) (take c.args.len.now c.args.queue.now) (moves_in c.args.out.now c.args.count.now) (rw c.in-Switching.is);
+  turn = λ u e b y. stays (made c.args.moves.now) (phase4-pass (with_quantum c.args.rules.now u) c.args.core.0 _ e b y _ (waiting c.args.queue.now) (switching_or_running c.args.s c.in-Switching.is));
   besides = besides-same c.args.progressed.now c.args.core.0;
-  queue = no-longer-same c.args.len.now c.args.queue.now;
-  out = appended-none 2 c.args.count.now c.args.out.now;
-}
-
-pub returns-in-Running : goal.returns-in-Running
-unfolding filled
-returns-in-Running c = record {
-  turn = λ u e b y. phase4-busy (rules_of c.args.policy u c.args.cost c.args.prios.now) c.args.core.0 (core_of c.args.s e b y (get_or c.args.progressed.now c.args.core.0 false)) (take c.args.len.now c.args.queue.now) (moves_in c.args.out.now c.args.count.now) (rw c.in-Running.is);
-  besides = besides-same c.args.progressed.now c.args.core.0;
-  queue = no-longer-same c.args.len.now c.args.queue.now;
-  out = appended-none 2 c.args.count.now c.args.out.now;
+  queue = no-longer-same c.args.queue.now.len c.args.queue.now.words.now;
+  out = appended-none 2 c.args.moves.now.count c.args.moves.now.words.now;
+  lent = still-lent _;
+  lent_moves = still-lent _;
 }
