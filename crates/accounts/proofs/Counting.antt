@@ -8,7 +8,7 @@ use native.Mathlib.Numerals.{add-one}
 use native.Mathlib.Omega.{arith}
 use borrow.Author.Count.{below_more}
 use lib.ListN.{length, take, get_or, set}
-use lib.Seq.{take-suc, get_or-set_same, get_or-set_other}
+use lib.Seq.{take-suc, take-take, length-take-le, get_or-set_same, get_or-set_other}
 use Rattle.model.specs.Types.{Move, starts, leaves, takes}
 use Rattle.model.specs.Accounting.{charge_core, takes_in}
 use Rattle.model.specs.Reading.{core_state_meant, core_ticks_meant}
@@ -52,8 +52,15 @@ pub takes_none : (out : List ℕ) → 0 ≡ takes_in (moves_in out 0)
 unfolding takes_in moves_in
 takes_none out = refl
 
-pub takes-next : (out : List ℕ) (k n w : ℕ) → k < length out → n ≡ takes_in (moves_in out k) → w ≡ takes_in (decode (get_or out k 0) ∷ []) → n + w ≡ takes_in (moves_in out (k + 1))
-takes-next out k n w h a b = rw (moves_next out k h, takes-append, ← a, ← b)
+pub takes_next : (out : List ℕ) (k n w : ℕ) → k < length out → n ≡ takes_in (moves_in out k) → w ≡ takes_in (decode (get_or out k 0) ∷ []) → n + w ≡ takes_in (moves_in out (k + 1))
+takes_next out k n w h a b = rw (moves_next out k h, takes-append, ← a, ← b)
+
+-- a part of the words is gone through to its end
+pub takes_all : (out : List ℕ) (count k : ℕ) → k ≡ length (take count out) → count ≤ length out → takes_in (moves_in (take count out) k) ≡ takes_in (moves_in out count)
+unfolding moves_in
+takes_all out count k e h =
+    let z : k ≡ count = e ∙ length-take-le count out h in
+    rw (z, take-take count count out (omega arith))
 
 ---- counters
 

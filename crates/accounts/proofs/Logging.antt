@@ -1,12 +1,11 @@
 -- The log, one move or one wake further; and that the definition's log is what these functions leave.
 -- Assumes nothing.
-use Prim.Native.Nat.{ℕ, ◌+◌, ◌-◌, ◌/◌, ◌<◌, ◌≤◌}
+use Prim.Native.Nat.{ℕ, ◌+◌, ◌/◌, ◌<◌}
 use mathlib.Core.Path.{◌≡◌, refl, sym, ◌∙◌}
 use mathlib.Core.List.{List, [], ◌∷◌, ◌++◌}
 use native.Mathlib.Numerals.{add-one}
-use native.Mathlib.Omega.{arith}
-use lib.ListN.{length, take, drop, get_or, length-drop}
-use lib.Seq.{take-suc, get_or-drop}
+use lib.ListN.{length, take, get_or}
+use lib.Seq.{take-suc}
 use Rattle.model.specs.Types.{Move, Event}
 use Rattle.queue.specs.Words.{decode, moves_in}
 use Rattle.accounts.specs.Log.{log_move, moved_log, log_wake, woken_log}
@@ -36,19 +35,12 @@ unfolding woken_log
 woken-append e now [] t l = refl
 woken-append e now (x ∷ ts) t l = woken-append e now ts t (log_wake e now x l)
 
-pub woken-none : (e now from : ℕ) (q : List ℕ) (l : List Event) → l ≡ woken_log e now (take (from - from) (drop from q)) l
+pub woken_none : (e now : ℕ) (l : List Event) → l ≡ woken_log e now [] l
 unfolding woken_log
-woken-none e now from q l = let z : from - from ≡ 0 = omega arith in rw z
+woken_none e now l = refl
 
--- one thread further, in a part of the queue
-part-next : (q : List ℕ) (from k : ℕ) → from ≤ k → k < length q → take (k + 1 - from) (drop from q) ≡ take (k - from) (drop from q) ++ (get_or q k 0 ∷ [])
-part-next q from k a b =
-    let z : k + 1 - from ≡ k - from + 1 = omega arith in
-    let y : from + (k - from) ≡ k = omega arith in
-    let h : k - from < length (drop from q) = simp length-drop (omega arith) in
-    rw (z, add-one, take-suc (drop from q) (k - from) 0 h, get_or-drop, y)
-
+-- one thread further
 pub woken-next :
-    (words words' now : ℕ) (q : List ℕ) (from k : ℕ) (l l' l'' : List Event) → from ≤ k → k < length q → words' ≡ words → l' ≡ woken_log (words / 2) now (take (k - from) (drop from q)) l
-    → l'' ≡ log_wake (words' / 2) now (get_or q k 0) l' → l'' ≡ woken_log (words / 2) now (take (k + 1 - from) (drop from q)) l
-woken-next words words' now q from k l l' l'' h g w a b = b ∙ rw (w, a, part-next q from k h g) (sym (woken-append (words / 2) now (take (k - from) (drop from q)) (get_or q k 0) l))
+    (words words' now : ℕ) (ts : List ℕ) (k : ℕ) (l l' l'' : List Event) → k < length ts → words' ≡ words → l' ≡ woken_log (words / 2) now (take k ts) l
+    → l'' ≡ log_wake (words' / 2) now (get_or ts k 0) l' → l'' ≡ woken_log (words / 2) now (take (k + 1) ts) l
+woken-next words words' now ts k l l' l'' h w a b = b ∙ rw (w, a, add-one, take-suc ts k 0 h) (sym (woken-append (words / 2) now (take k ts) (get_or ts k 0) l))

@@ -10,19 +10,14 @@ use model::{CoreState, CoreTicks};
 use ticks::charged_ticks;
 
 // "Charging a tick changes one core's three counters and nothing beside them in the step that counts this core"
-#[tactic(auto, using(crate::proofs::Counting::ticks_end))]
 pub fn charge_ticks(ticks: [CoreTicks; 8], states: [CoreState; 8], n: usize) -> [CoreTicks; 8]
     requires { (n ≤ 8) × ((i : ℕ) → i < n → TicksRoom (get_or ticks i no_ticks)) }
     ensures { TicksCharged n states ticks result }
 {
     let mut charged = ticks;
-    for i in 0..8 {
-        if n <= i {
-            return charged;
-        }
+    for i in 0..n {
         let t = charged[i];
-        let s = states[i];
-        let u = charged_ticks(t, s);
+        let u = charged_ticks(t, states[i]);
         charged[i] = u;
     }
     charged
@@ -40,17 +35,15 @@ fn is_take(word: u64) -> u64
 }
 
 // How many of the moves are dispatches: each is a context switch.
+#[tactic(auto, using(crate::proofs::Counting::takes_none, crate::proofs::Counting::takes_next, crate::proofs::Counting::takes_all))]
 pub fn count_takes(moves: &[u64], count: usize) -> u64
     requires { count ≤ length moves.now }
     ensures takes { result ≡ takes_in (moves_in moves.now count) }
     ensures few { result ≤ count }
 {
     let mut takes: u64 = 0;
-    let mut k: usize = 0;
-    while k < count {
-        let w = moves[k];
-        takes = takes + is_take(w);
-        k = k + 1;
+    for word in &moves[..count] {
+        takes += is_take(*word);
     }
     takes
 }

@@ -64,20 +64,15 @@ pub fn charge_lanes(
     let words = 2 * capacity;
     let mut charged = pos;
     let mut start = MOVE_ROOM;
-    for i in 0..8 {
-        if n <= i {
-            return charged;
-        }
+    for i in 0..n {
         let p = charged[i];
-        let s = states[i];
         let end = start + words;
-        let q = charge_part(lanes, start, end, p, tick, s);
+        let q = charge_part(lanes, start, end, p, tick, states[i]);
         start = end;
         // A segment that grows leaves the ring's position as it was, and a store that is not needed costs time.
-        if is_same(p, q) {
-            continue;
+        if !is_same(p, q) {
+            charged[i] = q;
         }
-        charged[i] = q;
     }
     charged
 }

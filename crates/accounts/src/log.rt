@@ -51,11 +51,9 @@ pub fn log_moves(ring: &mut [u64], pos: RingPos, moves: &[u64], count: usize, ti
     ensures behind { Behind ring.old ring.new pos result }
 {
     let mut p = pos;
-    let mut k: usize = 0;
-    while k < count {
+    for k in 0..count {
         let m = move_at(moves, k);
         p = log_move(ring, p, m, tick);
-        k = k + 1;
     }
     p
 }
@@ -90,11 +88,8 @@ pub fn log_wakes(
     ensures behind { Behind ring.old ring.new pos result }
 {
     let mut p = pos;
-    let mut k = from;
-    while k < to {
-        let tid = Tid(queue[k]);
-        p = log_wake(ring, p, tid, tick);
-        k = k + 1;
+    for waiter in &queue[from..to] {
+        p = log_wake(ring, p, Tid(*waiter), tick);
     }
     p
 }

@@ -2,6 +2,7 @@
 use Prim.Native.Nat.{ℕ, zero, suc, ◌+◌, ◌<◌, ◌≤◌}
 use mathlib.Core.Path.{◌≡◌, refl, sym, ap, ◌∙◌}
 use mathlib.Core.Bool.{Bool, true, false, cond, ◌&&◌, ◌||◌}
+use Rattle.std.specs.Int.{from_bool}
 use mathlib.Core.List.{List, [], ◌∷◌, ◌++◌, map, map-append}
 use native.Mathlib.Numerals.{add-one}
 use native.Mathlib.Omega.{arith}
@@ -9,7 +10,7 @@ use lib.Dec.{eqb}
 use lib.ListN.{length, take, get_or, set, replicate}
 use lib.Seq.{take-suc, take-suc-set, take_all}
 use native.Mathlib.Nat.{add-zero}
-use borrow.Author.Tests.{eq-eqb, ne_eqb, eqb-true}
+use borrow.Author.Tests.{ne_eqb}
 use Rattle.model.specs.declared.CoreState as CoreStates
 use Rattle.model.specs.declared.CoreState.TheVariants as core_states
 use Rattle.model.specs.Types.{CoreState, Idle, Core, ThreadState, Ready, Exited, OnCore, Blocked, ThreadRecord}
@@ -17,9 +18,9 @@ use Rattle.model.specs.Phases.{holder}
 use Rattle.model.specs.Reading.{core_state_meant}
 use Rattle.model.specs.Accounting
 use Rattle.model.specs.Accounting.{add_counts, set_counts, runs, runs_on, holds, is_holder, charge_waiting, charge_threads}
-use Rattle.model.specs.Calls.{elem}
+use Rattle.model.specs.Calls.{elem, is_running}
 use Rattle.charges.specs.declared.charge.CoreThreads.{CoreThreads}
-use Rattle.charges.specs.Charging.{nobody, holder_word, is_running, has_others, core_threads_of, runs_held, cores_meant, charge_thread, run_due, ready_due, blocked_due}
+use Rattle.charges.specs.Charging.{nobody, holder_word, has_others, core_threads_of, runs_held, cores_meant, charge_thread, ready_due, blocked_due}
 
 ---- truth values
 
@@ -40,6 +41,9 @@ and-true false = refl
 
 ---- loops over eight words
 
+abbrev pub running_of : CoreStates.CoreState → Bool
+running_of s = is_running (core_state_meant s)
+
 elem_back : (x : ℕ) (l : List ℕ) (y : ℕ) → elem x (l ++ (y ∷ [])) ≡ elem x l || eqb y x
 unfolding elem
 elem_back x [] y = or-none (eqb y x)
@@ -49,64 +53,35 @@ elem_back x (h ∷ l) y = rw (elem_back x l y) (sym (or_assoc (eqb h x) (elem x 
     or_assoc true b c = refl
     or_assoc false b c = refl
 
-elem_next : (x k : ℕ) (l : List ℕ) → k < length l → elem x (take (k + 1) l) ≡ elem x (take k l) || eqb (get_or l k 0) x
+pub elem_next : (x k : ℕ) (l : List ℕ) → k < length l → elem x (take (k + 1) l) ≡ elem x (take k l) || eqb (get_or l k 0) x
 elem_next x k l h = rw (add-one, take-suc l k 0 h) (elem_back x (take k l) (get_or l k 0))
-
-pub elem-hit : (x k : ℕ) (l : List ℕ) (found : Bool) → k < length l → found ≡ elem x (take k l) → get_or l k 0 ≡ x → true ≡ elem x (take (k + 1) l)
-elem-hit x k l found h e q = sym (elem_next x k l h ∙ rw (eq-eqb (get_or l k 0) x q) (or-true (elem x (take k l))))
-  where
-    or-true : (b : Bool) → b || true ≡ true
-    or-true true = refl
-    or-true false = refl
-
-pub elem-miss : (x k : ℕ) (l : List ℕ) (found : Bool) → k < length l → found ≡ elem x (take k l) → (get_or l k 0 ≡ x → ⊥) → found ≡ elem x (take (k + 1) l)
-elem-miss x k l found h e q = e ∙ sym (elem_next x k l h ∙ rw (ne_eqb (get_or l k 0) x q) (or-none (elem x (take k l))))
-  where
-    or-none : (b : Bool) → b || false ≡ b
-    or-none true = refl
-    or-none false = refl
 
 pub filled : {A B : Type 0} (f : A → B) (xs : List A) (d : A) (out : List B) (k : ℕ) (y : B) → k < length xs → k < length out → y ≡ f (get_or xs k d) → take k out ≡ map f (take k xs)
     → take (k + 1) (set out k y) ≡ map f (take (k + 1) xs)
 filled f xs d out k y h l v e = rw (add-one, take-suc xs k d h, take-suc-set out k y l, map-append, e, v)
 
-pub all-filled : (cores : List CoreStates.CoreState) (held : List ℕ) (running : List Bool) (k : ℕ) → length cores ≤ k → length held ≤ k → length running ≤ k → take k held ≡ map holder_word (take k cores) → take k running ≡ map is_running (take k cores)
+pub all-filled : (cores : List CoreStates.CoreState) (held : List ℕ) (running : List Bool) (k : ℕ) → length cores ≤ k → length held ≤ k → length running ≤ k → take k held ≡ map holder_word (take k cores) → take k running ≡ map running_of (take k cores)
     → (others : Bool) → others ≡ has_others held → ◌≡◌ {A = CoreThreads} (record { others = others; held = held; running = running }) (core_threads_of cores)
 unfolding core_threads_of
 all-filled cores held running k a b c e f others o =
     let p : held ≡ map holder_word cores = sym (take_all k held b) ∙ e ∙ ap (map holder_word) (take_all k cores a) in
-    let q : running ≡ map is_running cores = sym (take_all k running c) ∙ f ∙ ap (map is_running) (take_all k cores a) in
+    let q : running ≡ map running_of cores = sym (take_all k running c) ∙ f ∙ ap (map running_of) (take_all k cores a) in
     rw (o, p, q)
 
-runs_held-next : (i k : ℕ) (hs : List ℕ) (rs : List Bool) → k < length hs → k < length rs → runs_held i (take (suc k) hs) (take (suc k) rs) ≡ runs_held i (take k hs) (take k rs) || (eqb (get_or hs k 0) i && get_or rs k false)
+pub runs_held_next : (i k : ℕ) (hs : List ℕ) (rs : List Bool) → k < length hs → k < length rs → runs_held i (take (suc k) hs) (take (suc k) rs) ≡ runs_held i (take k hs) (take k rs) || (eqb (get_or hs k 0) i && get_or rs k false)
 unfolding runs_held
-runs_held-next i k [] rs a b = absurd (omega (arith, a))
-runs_held-next i k (h ∷ hs) [] a b = absurd (omega (arith, b))
-runs_held-next i zero (h ∷ hs) (r ∷ rs) a b = or-none (eqb h i && r)
-runs_held-next i (suc k) (h ∷ hs) (r ∷ rs) a b = rw (runs_held-next i k hs rs (omega (arith, a)) (omega (arith, b))) (sym (or_assoc (eqb h i && r) (runs_held i (take k hs) (take k rs)) (eqb (get_or hs k 0) i && get_or rs k false)))
+runs_held_next i k [] rs a b = absurd (omega (arith, a))
+runs_held_next i k (h ∷ hs) [] a b = absurd (omega (arith, b))
+runs_held_next i zero (h ∷ hs) (r ∷ rs) a b = or-none (eqb h i && r)
+runs_held_next i (suc k) (h ∷ hs) (r ∷ rs) a b = rw (runs_held_next i k hs rs (omega (arith, a)) (omega (arith, b))) (sym (or_assoc (eqb h i && r) (runs_held i (take k hs) (take k rs)) (eqb (get_or hs k 0) i && get_or rs k false)))
   where
     or_assoc : (a b c : Bool) → (a || b) || c ≡ a || (b || c)
     or_assoc true b c = refl
     or_assoc false b c = refl
 
--- one core more, of which it is known whether the thread holds it and whether it runs
-module _ (i k : ℕ) (hs : List ℕ) (rs : List Bool) (found : Bool) (a : k < length hs) (b : k < length rs) (e : found ≡ runs_held i (take k hs) (take k rs)) where
-  pub run-hit : get_or hs k 0 ≡ i → get_or rs k false ≡ true → true ≡ runs_held i (take (k + 1) hs) (take (k + 1) rs)
-  run-hit h r = sym (rw (add-one, runs_held-next i k hs rs a b, eq-eqb (get_or hs k 0) i h, r) (or-true (runs_held i (take k hs) (take k rs))))
-    where
-      or-true : (b : Bool) → b || true ≡ true
-      or-true true = refl
-      or-true false = refl
-
-  pub run-rests : get_or hs k 0 ≡ i → get_or rs k false ≡ false → found ≡ runs_held i (take (k + 1) hs) (take (k + 1) rs)
-  run-rests h r = e ∙ sym (rw (add-one, runs_held-next i k hs rs a b, eq-eqb (get_or hs k 0) i h, r) (or-none (runs_held i (take k hs) (take k rs))))
-
-  pub run-miss : (get_or hs k 0 ≡ i → ⊥) → found ≡ runs_held i (take (k + 1) hs) (take (k + 1) rs)
-  run-miss h = e ∙ sym (rw (add-one, runs_held-next i k hs rs a b, ne_eqb (get_or hs k 0) i h) (or-none (runs_held i (take k hs) (take k rs))))
-
 ---- who runs, who holds
 
-runs-word : (i : ℕ) (cores : List CoreStates.CoreState) → runs_held i (map holder_word cores) (map is_running cores) ≡ runs i (cores_meant cores)
+runs-word : (i : ℕ) (cores : List CoreStates.CoreState) → runs_held i (map holder_word cores) (map running_of cores) ≡ runs i (cores_meant cores)
 unfolding runs_held runs runs_on cores_meant
 runs-word i [] = refl
 runs-word i (core_states.Idle ∷ cs) = rw (and-false (eqb nobody i)) (runs-word i cs)
@@ -141,26 +116,10 @@ runs-hold i (h ∷ hs) (r ∷ rs) e = either (eqb h i) r (runs_held i hs rs) (el
 
 ---- a tick's part in the counters
 
-pub run-due : (b : Bool) → run_due b ≤ 1
-run-due true = omega arith
-run-due false = omega arith
-
-pub ready-due : (s : ThreadState) → ready_due s ≤ 1
-ready-due Ready = omega arith
-ready-due Exited = omega arith
-ready-due (OnCore i) = omega arith
-ready-due (Blocked t) = omega arith
-
-pub blocked-due : (s : ThreadState) → blocked_due s ≤ 1
-blocked-due Ready = omega arith
-blocked-due Exited = omega arith
-blocked-due (OnCore i) = omega arith
-blocked-due (Blocked t) = omega arith
-
 abbrev due_added : (run ready blocked : ℕ) → ThreadRecord → ThreadRecord
 due_added a b c t = set_counts (record { run = a; ready = b; blocked = c; dispatches = t.counts.dispatches; preemptions = t.counts.preemptions; yields = t.counts.yields }) t
 
-run_is : (t : ThreadRecord) (runs : Bool) → due_added (t.counts.run + run_due runs) t.counts.ready t.counts.blocked t ≡ cond runs (add_counts 1 0 0 0 0 0 t) t
+run_is : (t : ThreadRecord) (runs : Bool) → due_added (t.counts.run + from_bool runs) t.counts.ready t.counts.blocked t ≡ cond runs (add_counts 1 0 0 0 0 0 t) t
 unfolding add_counts
 run_is t true = simp add-zero
 run_is t false = simp add-zero
@@ -174,7 +133,7 @@ wait-is t (Blocked u) = simp add-zero
 
 -- what `charged` makes of thread i's record t
 module _ (i : ℕ) (h : i < nobody) (on : CoreThreads) (t : ThreadRecord) (cores : List CoreStates.CoreState) (e : on ≡ core_threads_of cores) where
-  pub held-is : elem i on.held ≡ true → (due : ℕ) → due ≡ run_due (runs_held i on.held on.running) → due_added (t.counts.run + due) t.counts.ready t.counts.blocked t ≡ charge_thread (cores_meant cores) i t
+  pub held-is : elem i on.held ≡ true → (due : ℕ) → due ≡ from_bool (runs_held i on.held on.running) → due_added (t.counts.run + due) t.counts.ready t.counts.blocked t ≡ charge_thread (cores_meant cores) i t
   unfolding charge_thread
   held-is k due d =
       let held : Accounting.holds i (cores_meant cores) ≡ true = sym (holds-is i h on cores e) ∙ k in

@@ -1,9 +1,11 @@
 -- Charging one tick to one thread.
-use Rattle.std.specs.Prelude.{ℕ, ◌+◌, ◌<◌, ◌^◌, Bool, true, false, cond, not, ◌&&◌, ◌||◌, List, [], ◌∷◌, map, eqb, get_or}
+use Rattle.std.specs.Prelude.{ℕ, ◌+◌, ◌<◌, ◌^◌, Bool, false, cond, not, ◌&&◌, ◌||◌, List, [], ◌∷◌, map, eqb, drop}
+use Rattle.std.specs.List.{list_any}
 use Rattle.model.specs.declared.CoreState as CoreStates
 use Rattle.model.specs.declared.CoreState.TheVariants as core_states
 use Rattle.model.specs.Types.{Core, ThreadState, Ready, Exited, OnCore, Blocked, ThreadRecord}
 use Rattle.model.specs.Reading.{core_state_meant}
+use Rattle.model.specs.Calls.{is_running}
 use Rattle.model.specs.Phases.{cleared}
 use Rattle.model.specs.Accounting.{add_counts, runs, holds, charge_waiting}
 use Rattle.charges.specs.declared.charge.CoreThreads.{CoreThreads}
@@ -26,20 +28,12 @@ holder_word core_states.Idle = nobody
 holder_word (core_states.Switching t l) = t.0
 holder_word (core_states.Running t s) = t.0
 
-abbrev pub is_running : CoreStates.CoreState → Bool
-is_running core_states.Idle = false
-is_running (core_states.Switching t l) = false
-is_running (core_states.Running t s) = true
-
--- whether any of eight cores but the first is held
-abbrev pub is_held_at : List ℕ → ℕ → Bool
-is_held_at held k = not (eqb (get_or held k 0) nobody)
-
+-- whether any of the cores but the first is held
 unfoldable pub has_others : List ℕ → Bool
-has_others held = ((((is_held_at held 1 || is_held_at held 2) || is_held_at held 3) || ((is_held_at held 4 || is_held_at held 5) || is_held_at held 6)) || is_held_at held 7)
+has_others held = list_any (λ w. not (eqb w nobody)) (drop 1 held)
 
 unfoldable pub core_threads_of : List CoreStates.CoreState → CoreThreads
-core_threads_of cores = record { others = has_others (map holder_word cores); held = map holder_word cores; running = map is_running cores }
+core_threads_of cores = record { others = has_others (map holder_word cores); held = map holder_word cores; running = map (λ s. is_running (core_state_meant s)) cores }
 
 -- whether one of the cores that thread i holds runs
 unfoldable pub runs_held : ℕ → (held : List ℕ) (running : List Bool) → Bool
@@ -47,11 +41,7 @@ runs_held i [] rs = false
 runs_held i (h ∷ hs) [] = false
 runs_held i (h ∷ hs) (r ∷ rs) = (eqb h i && r) || runs_held i hs rs
 
--- what a tick adds to the run ticks of a thread on a core, and to ready and blocked ticks of one on no core
-abbrev pub run_due : (runs : Bool) → ℕ
-run_due true = 1
-run_due false = 0
-
+-- what a tick adds to the ready and blocked ticks of a thread on no core
 abbrev pub ready_due : ThreadState → ℕ
 ready_due Ready = 1
 ready_due Exited = 0

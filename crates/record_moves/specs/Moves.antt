@@ -1,8 +1,8 @@
 -- Moves as words, and what they do to thread records.
-use Rattle.std.specs.Prelude.{ℕ, zero, suc, ◌+◌, ◌/◌, ◌%◌, ◌<◌, ◌^◌, List, [], ◌∷◌, map, take}
+use Rattle.std.specs.Prelude.{ℕ, ◌+◌, ◌<◌, ◌^◌, List, [], ◌∷◌}
 pub use Rattle.queue.specs.Words.{move_of, decode}
 unfoldable pub use Rattle.queue.specs.Words.{moves_in}
-use Rattle.model.specs.Types.{Exit, Block, Yield, Quantum, Preempt, Forced, Move, starts, leaves, takes, ThreadRecord}
+use Rattle.model.specs.Types.{Move, starts, leaves, takes, ThreadRecord}
 use Rattle.model.specs.Phases.{update}
 use Rattle.model.specs.Accounting.{started, record_leave, record_dispatch}
 

@@ -12,6 +12,7 @@ use borrow.Author.Tests.{lt-ltb}
 use Rattle.model.specs.Types.{ThreadState, ThreadRecord}
 use Rattle.model.specs.Accounting.{total, one, since}
 use Rattle.model.specs.Questions.{any_thread, is_live, is_runnable}
+use Rattle.record_reads.specs.declared.totals.Totals.{Totals}
 use Rattle.record_reads.specs.Totals.{flag, totals_of, add_totals, TotalsFit}
 
 pub total-append : (f : ThreadRecord → ℕ) (a b : List ThreadRecord) → total f (a ++ b) ≡ total f a + total f b
@@ -22,6 +23,14 @@ total-append f (h ∷ a) b = ap (λ (n : ℕ). f h + n) (total-append f a b) ∙
 total-back : (f : ThreadRecord → ℕ) (a : List ThreadRecord) (t : ThreadRecord) → total f a + f t ≡ total f (a ++ (t ∷ []))
 unfolding total
 total-back f a t = sym (total-append f a (t ∷ []) ∙ ap (λ (n : ℕ). total f a + n) (add-zero (f t)))
+
+-- `Totals::default`, where all are 0, is the sums of no threads
+pub default-is : (n : Totals) → (n.threads ≡ 0) × ((n.finished ≡ 0) × ((n.responded ≡ 0) × ((n.preemptions ≡ 0) × ((n.waiting ≡ 0) × ((n.response ≡ 0) × ((n.turnaround ≡ 0) × ((n.live ≡ 0) × (n.runnable ≡ 0)))))))) → n ≡ totals_of []
+unfolding totals_of total
+default-is n (a, (b, (c, (d, (e, (f, (g, (h, i)))))))) = zeros n.threads n.finished n.responded n.preemptions n.waiting n.response n.turnaround n.live n.runnable a b c d e f g h i
+  where
+    zeros : (a b c d e f g h i : ℕ) → a ≡ 0 → b ≡ 0 → c ≡ 0 → d ≡ 0 → e ≡ 0 → f ≡ 0 → g ≡ 0 → h ≡ 0 → i ≡ 0 → ◌≡◌ {A = Totals} (record { threads = a; finished = b; responded = c; preemptions = d; waiting = e; response = f; turnaround = g; live = h; runnable = i }) (record { threads = 0; finished = 0; responded = 0; preemptions = 0; waiting = 0; response = 0; turnaround = 0; live = 0; runnable = 0 })
+    zeros a b c d e f g h i a' b' c' d' e' f' g' h' i' = rw (a', b', c', d', e', f', g', h', i')
 
 -- the sums with one thread more at the end
 pub totals-back : (a : List ThreadRecord) (t : ThreadRecord) → add_totals (totals_of a) t ≡ totals_of (a ++ (t ∷ []))

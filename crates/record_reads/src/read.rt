@@ -16,38 +16,26 @@ pub fn priority_of(t: ThreadInfo) -> u32
 pub fn yields_of(t: ThreadInfo) -> u64
     ensures { result ≡ (thread_meant t).counts.yields }
 {
-    let s = t.stats;
-    s.yields
+    t.stats.yields
 }
 
 // Whether the thread waits for `on` to exit.
 pub fn is_waiter(t: ThreadInfo, on: Tid) -> bool
     ensures { result ≡ blocked_on on.0 (thread_meant t).state }
 {
-    let state = t.state;
-    match state {
-        ThreadState::Ready => false,
-        ThreadState::Running(_) => false,
-        ThreadState::Blocked(u) => {
-            let n = u.0;
-            n == on.0
-        }
-        ThreadState::Exited => false,
-    }
+    t.state == ThreadState::Blocked(on)
 }
 
 // How a join by `caller` of `target` turns out, where t is the target's record.
+#[tactic(auto, unfolding(model::specs::Calls::outcome))]
 pub fn join_outcome(caller: Tid, target: Tid, t: ThreadInfo) -> JoinOutcome
     ensures { join_meant result ≡ outcome caller.0 target.0 (some (thread_meant t).state) }
 {
-    if target.0 == caller.0 {
+    if target == caller {
         return JoinOutcome::Invalid;
     }
-    let state = t.state;
-    match state {
-        ThreadState::Ready => JoinOutcome::Wait,
-        ThreadState::Running(_) => JoinOutcome::Wait,
-        ThreadState::Blocked(_) => JoinOutcome::Wait,
+    match t.state {
+        ThreadState::Ready | ThreadState::Running(_) | ThreadState::Blocked(_) => JoinOutcome::Wait,
         ThreadState::Exited => JoinOutcome::Done,
     }
 }

@@ -1,48 +1,18 @@
 -- Events in words: what was written is what is read.
-use mathlib.Core.Path.{◌≡◌, refl, ap, ◌∙◌}
+use mathlib.Core.Path.{◌≡◌, ap, ◌∙◌}
 use mathlib.Core.Option.{some}
 use mathlib.Core.List.{List, [], ◌∷◌, ◌++◌, map}
-use Prim.Native.Nat.{ℕ, zero, suc, ◌+◌, ◌-◌, ◌*◌, ◌/◌, ◌%◌, ◌<◌}
+use Prim.Native.Nat.{ℕ, ◌+◌, ◌*◌, ◌/◌, ◌%◌, ◌<◌}
 use native.Mathlib.Omega.{arith}
 use lib.ListN.{length, length-map, get_elem?}
-use Rattle.model.specs.Types.{Forced, Departed, Event}
+use Rattle.model.specs.Types.{Event}
 use Rattle.model.specs.Accounting.{newest}
 use Rattle.rings.specs.declared.RingPos.{RingPos}
 use Rattle.rings.specs.declared.ring.Entry.{Entry}
 use Rattle.rings.specs.Ring.{entries_in, RingOK}
-use Rattle.rings.specs.Events.{reason_from, kind_from, kind_in, event_from, events_in}
+use Rattle.rings.specs.Events.{kind_in, event_from, events_in}
 use Rattle.rings.proofs.RingLaws.{newest-read, element-read}
 use Rattle.rings.proofs.EntryLaws.{entries_none, entries-count}
-
--- a code that is none of the first five
-pub is-forced : (code : ℕ) → (code ≡ 0 → ⊥) → (code ≡ 1 → ⊥) → (code ≡ 2 → ⊥) → (code ≡ 3 → ⊥) → (code ≡ 4 → ⊥) → Forced ≡ reason_from code
-is-forced zero a b c d e = absurd (a refl)
-is-forced (suc zero) a b c d e = absurd (b refl)
-is-forced (suc (suc zero)) a b c d e = absurd (c refl)
-is-forced (suc (suc (suc zero))) a b c d e = absurd (d refl)
-is-forced (suc (suc (suc (suc zero)))) a b c d e = absurd (e refl)
-is-forced (suc (suc (suc (suc (suc n))))) a b c d e = refl
-
-pub is-leave : (code v : ℕ) → (code ≡ 0 → ⊥) → (code ≡ 1 → ⊥) → (code ≡ 2 → ⊥) → (code ≡ 3 → ⊥) → (code ≡ 4 → ⊥) → Departed v (reason_from (code - 5)) ≡ kind_from code v
-is-leave zero v a b c d e = absurd (a refl)
-is-leave (suc zero) v a b c d e = absurd (b refl)
-is-leave (suc (suc zero)) v a b c d e = absurd (c refl)
-is-leave (suc (suc (suc zero))) v a b c d e = absurd (d refl)
-is-leave (suc (suc (suc (suc zero)))) v a b c d e = absurd (e refl)
-is-leave (suc (suc (suc (suc (suc n))))) v a b c d e = let z : suc (suc (suc (suc (suc n)))) - 5 ≡ n = omega arith in ap (λ (k : ℕ). Departed v (reason_from k)) z
-
-low : (a b : ℕ) → b < 16 → (a * 16 + b) % 16 ≡ b
-low a b h = omega arith
-
-high : (a b : ℕ) → b < 16 → (a * 16 + b) / 16 ≡ a
-high a b h = omega arith
-
-pub kind-packed : (code v : ℕ) → code < 16 → v < 4_294_967_296 → kind_in (v * 16 + code) ≡ kind_from code v
-kind-packed code v h l = let t : v % 4_294_967_296 ≡ v = omega arith in rw (low v code h, high v code h, t)
-
--- a leave's code behind the five others
-pub leave-code : (n v : ℕ) → kind_from (5 + n) v ≡ Departed v (reason_from n)
-leave-code n v = let z : 5 + n ≡ suc (suc (suc (suc (suc n)))) = omega arith in rw z
 
 pub event-packed : (tick tid w : ℕ) → tid < 4_294_967_296 → event_from (record { first = tick * 4_294_967_296 + tid; second = w }) ≡ record { tick = tick; tid = tid; kind = kind_in w }
 event-packed tick tid w l =

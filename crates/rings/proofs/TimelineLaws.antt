@@ -3,9 +3,9 @@ use mathlib.Core.Path.{◌≡◌, refl, sym, ap, ◌∙◌}
 use mathlib.Core.Bool.{Bool, true, false, cond, ◌&&◌}
 use mathlib.Core.Option.{some}
 use mathlib.Core.List.{List, [], ◌∷◌, ◌++◌, map, map-append, append_assoc}
-use Prim.Native.Nat.{ℕ, zero, suc, ◌+◌, ◌-◌, ◌*◌, ◌/◌, ◌%◌, ◌<◌, ◌≤◌}
+use Prim.Native.Nat.{ℕ, ◌+◌, ◌*◌, ◌/◌, ◌%◌, ◌<◌, ◌≤◌}
 use native.Mathlib.Omega.{arith}
-use borrow.Author.Tests.{eq-eqb, ne_eqb, eqb-true}
+use borrow.Author.Tests.{eqb-true}
 use lib.Dec.{eqb}
 use lib.ListN.{length, length-map, set, get_or, get_elem?}
 use Rattle.model.specs.Types.{Lane, IdleLane, SwitchLane, RunLane, Segment}
@@ -25,40 +25,6 @@ lane-written IdleLane = refl
 lane-written (SwitchLane t) = refl
 lane-written (RunLane t) = refl
 
--- a code that is neither of the first two
-pub is-run : (code tid : ℕ) → (code ≡ 0 → ⊥) → (code ≡ 1 → ⊥) → RunLane tid ≡ lane_from code tid
-is-run zero tid a b = absurd (a refl)
-is-run (suc zero) tid a b = absurd (b refl)
-is-run (suc (suc n)) tid a b = refl
-
-pub same-idle : (code tid : ℕ) → eqb code 0 ≡ same_lane (lane_from code tid) IdleLane
-unfolding same_lane
-same-idle zero tid = refl
-same-idle (suc zero) tid = refl
-same-idle (suc (suc n)) tid = ne_eqb (suc (suc n)) 0 (λ p. omega arith)
-
-pub same_switch : (code tid t : ℕ) → code ≡ 1 → eqb tid t ≡ same_lane (lane_from code tid) (SwitchLane t)
-unfolding same_lane
-same_switch code tid t q = rw q
-
-pub not_switch : (code tid t : ℕ) → (code ≡ 1 → ⊥) → false ≡ same_lane (lane_from code tid) (SwitchLane t)
-unfolding same_lane
-not_switch zero tid t n = refl
-not_switch (suc zero) tid t n = absurd (n refl)
-not_switch (suc (suc k)) tid t n = refl
-
-pub same-run : (code tid t : ℕ) → 2 ≤ code → eqb tid t ≡ same_lane (lane_from code tid) (RunLane t)
-unfolding same_lane
-same-run zero tid t l = absurd (omega arith)
-same-run (suc zero) tid t l = absurd (omega arith)
-same-run (suc (suc n)) tid t l = refl
-
-pub not-run : (code tid t : ℕ) → code < 2 → false ≡ same_lane (lane_from code tid) (RunLane t)
-unfolding same_lane
-not-run zero tid t l = refl
-not-run (suc zero) tid t l = refl
-not-run (suc (suc n)) tid t l = absurd (omega arith)
-
 same-lane : (l m : Lane) → same_lane l m ≡ true → l ≡ m
 unfolding same_lane
 same-lane IdleLane IdleLane q = refl
@@ -72,14 +38,6 @@ same-lane (SwitchLane t) (SwitchLane u) q = ap SwitchLane (eqb-true t u q)
 same-lane (RunLane t) (RunLane u) q = ap RunLane (eqb-true t u q)
 
 ---- the test for growth
-
-pub ends-elsewhere : (x : Bool) (a b : ℕ) → (a ≡ b → ⊥) → false ≡ (x && eqb a b)
-ends-elsewhere true a b n = sym (ne_eqb a b n)
-ends-elsewhere false a b n = refl
-
-pub ends-here : (x : Bool) (a b : ℕ) → a ≡ b → x ≡ (x && eqb a b)
-ends-here true a b q = sym (eq-eqb a b q)
-ends-here false a b q = refl
 
 pub ends_at : (x : Bool) (a b : ℕ) → true ≡ (x && eqb a b) → a ≡ b
 ends_at x a b q = eqb-true a b (and_r x (eqb a b) (sym q))

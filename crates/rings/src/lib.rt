@@ -10,7 +10,7 @@ pub mod timeline;
 
 // The slot of the newest entry, and the number of entries. It is the newest that a growing segment changes, so its slot is
 // at hand. An empty ring may have any slot here. A ring has fewer than 65,536 slots: a state holds nine positions and is copied in each call.
-#[derive(Clone, Copy)]
+#[derive(Clone, Copy, PartialEq, Eq, Debug)]
 pub struct RingPos {
     pub last: u16,
     pub len: u16,

@@ -8,7 +8,7 @@ ghost use Rattle.rings.specs.Ring.{next_slot, slot_before, capacity, entries_in,
 use crate::RingPos;
 
 // The two words of an entry.
-#[derive(Clone, Copy)]
+#[derive(Clone, Copy, PartialEq, Eq, Debug)]
 pub struct Entry {
     pub first: u64,
     pub second: u64,
@@ -19,10 +19,7 @@ fn next_slot(slots: usize, last: usize) -> usize
     requires { last < slots }
     ensures { (result ≡ next_slot slots last) × (result < slots) }
 {
-    if last + 1 < slots {
-        return last + 1;
-    }
-    0
+    if last + 1 < slots { last + 1 } else { 0 }
 }
 
 // The slot d before a slot, round the ring.
@@ -31,9 +28,10 @@ fn slot_before(slots: usize, last: usize, d: usize) -> usize
     ensures { (result ≡ slot_before slots last d) × (result < slots) }
 {
     if d <= last {
-        return last - d;
+        last - d
+    } else {
+        slots - (d - last)
     }
-    slots - (d - last)
 }
 
 fn store_entry(ring: &mut [u64], slot: usize, entry: Entry)

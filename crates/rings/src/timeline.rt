@@ -26,51 +26,33 @@ fn lane_tid(lane: Lane) -> u64
 {
     match lane {
         Lane::Idle => 0,
-        Lane::Switch(tid) => tid.0 as u64,
-        Lane::Run(tid) => tid.0 as u64,
+        Lane::Switch(tid) | Lane::Run(tid) => tid.0 as u64,
     }
 }
 
 fn lane_of(code: u64, tid: u32) -> Lane
     ensures { lane_meant result ≡ lane_from code tid }
 {
-    if code == 0 {
-        return Lane::Idle;
+    match code {
+        0 => Lane::Idle,
+        1 => Lane::Switch(Tid(tid)),
+        _ => Lane::Run(Tid(tid)),
     }
-    if code == 1 {
-        return Lane::Switch(Tid(tid));
-    }
-    Lane::Run(Tid(tid))
 }
 
-fn is_lane(code: u64, tid: u64, lane: Lane) -> bool
-    ensures { result ≡ same_lane (lane_from code tid) (lane_meant lane) }
+#[tactic(auto, unfolding(model::specs::Accounting::same_lane))]
+fn same_lane(a: Lane, b: Lane) -> bool
+    ensures { result ≡ same_lane (lane_meant a) (lane_meant b) }
 {
-    match lane {
-        Lane::Idle => code == 0,
-        Lane::Switch(t) => {
-            if code != 1 {
-                return false;
-            }
-            tid == t.0 as u64
-        }
-        Lane::Run(t) => {
-            if code < 2 {
-                return false;
-            }
-            tid == t.0 as u64
-        }
-    }
+    a == b
 }
 
 // Whether the segment in two words has this lane and ends at this tick.
 fn continues(first: u64, second: u64, tick: Tick, lane: Lane) -> bool
     ensures { result ≡ (same_lane (segment_from (record { first = first; second = second })).lane (lane_meant lane) && eqb (segment_from (record { first = first; second = second })).end tick.0) }
 {
-    if first / 4_294_967_296 != tick.0 {
-        return false;
-    }
-    is_lane(second % 4, first % 4_294_967_296, lane)
+    first / 4_294_967_296 == tick.0
+        && same_lane(lane_of(second % 4, (first % 4_294_967_296) as u32), lane)
 }
 
 // A new segment of one tick.
@@ -80,11 +62,9 @@ fn begin_segment(ring: &mut [u64], pos: RingPos, tick: Tick, lane: Lane) -> Ring
     ensures segments { segments_in ring.new result ≡ newest (capacity ring.old) (segments_in ring.old pos ++ (record { lane = lane_meant lane; start = tick.0; end = tick.0 + 1 } ∷ [])) }
     ensures behind { Behind ring.old ring.new pos result }
 {
-    let tid = lane_tid(lane);
-    let code = lane_code(lane);
     let entry = Entry {
-        first: (tick.0 + 1) * 4_294_967_296 + tid,
-        second: tick.0 * 4 + code,
+        first: (tick.0 + 1) * 4_294_967_296 + lane_tid(lane),
+        second: tick.0 * 4 + lane_code(lane),
     };
     push_entry(ring, pos, entry)
 }
@@ -97,8 +77,7 @@ pub fn charge_lane(ring: &mut [u64], pos: RingPos, tick: Tick, lane: Lane) -> Ri
     ensures behind { Behind ring.old ring.new pos result }
 {
     let last = pos.last as usize;
-    let len = pos.len as usize;
-    if len == 0 {
+    if pos.len == 0 {
         return begin_segment(ring, pos, tick, lane);
     }
     let first = ring[last * 2];
@@ -116,12 +95,9 @@ pub fn segment_at(ring: &[u64], pos: RingPos, k: usize) -> Segment
     requires { RingOK ring.now pos × (k < pos.len) }
     ensures { some (segment_meant result) ≡ get_elem? (segments_in ring.now pos) k }
 {
-    let entry = entry_at(ring, pos, k);
-    let first = entry.first;
-    let second = entry.second;
-    let lane = lane_of(second % 4, (first % 4_294_967_296) as u32);
+    let Entry { first, second } = entry_at(ring, pos, k);
     Segment {
-        lane: lane,
+        lane: lane_of(second % 4, (first % 4_294_967_296) as u32),
         start: Tick(second / 4),
         end: Tick(first / 4_294_967_296),
     }

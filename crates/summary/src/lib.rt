@@ -64,11 +64,9 @@ fn totals_of(t: CoreTicks) -> CoreTotals
     ensures { (result.busy ≡ t.busy) × (result.all ≡ all_ticks t) }
 {
     let busy = t.busy as u64;
-    let switching = t.switching as u64;
-    let idle = t.idle as u64;
     CoreTotals {
         busy,
-        all: busy + switching + idle,
+        all: busy + t.switching as u64 + t.idle as u64,
     }
 }
 
@@ -77,21 +75,14 @@ fn core_totals(ticks: [CoreTicks; 8], n: usize) -> CoreTotals
     requires { (n ≤ 8) × ((i : ℕ) → i < n → all_ticks (get_or ticks i no_ticks) ≤ 4_000_000_000) }
     ensures { (result.busy ≡ busy_in ticks n) × (result.all ≡ all_in ticks n) }
 {
-    let counters = ticks;
     let mut busy: u64 = 0;
     let mut all: u64 = 0;
-    let mut i: usize = 0;
-    while i < n {
-        let t = counters[i];
-        let more = totals_of(t);
-        busy = busy + more.busy;
-        all = all + more.all;
-        i += 1;
+    for counters in &ticks[..n] {
+        let more = totals_of(*counters);
+        busy += more.busy;
+        all += more.all;
     }
-    CoreTotals {
-        busy: busy,
-        all: all,
-    }
+    CoreTotals { busy, all }
 }
 
 // The exact sums, from the sums over the thread records and the cores' counters.
@@ -99,9 +90,7 @@ pub fn sums_from(s: Sched, totals: Totals) -> Sums
     requires { (ts : List ThreadInfo) × (qs : List ℕ) × (ps : List ℕ) × (ls : List ℕ) × (ws : List ℕ) × Summed s totals ts qs ps ls ws }
     ensures { ((ts : List ThreadInfo) (qs ps ls ws : List ℕ) → Summed s totals ts qs ps ls ws → SumsAre result (meant_at s ts qs ls ws)) × Fit result }
 {
-    let counters = s.ticks;
-    let tick = s.now;
-    let cores = core_totals(counters, s.cores);
+    let cores = core_totals(s.ticks, s.cores);
     Sums {
         threads: totals.threads,
         finished: totals.finished,
@@ -113,7 +102,7 @@ pub fn sums_from(s: Sched, totals: Totals) -> Sums
         turnaround: totals.turnaround,
         busy: cores.busy,
         core_ticks: cores.all,
-        now: tick,
+        now: s.now,
     }
 }
 
@@ -147,8 +136,7 @@ fn mean_bits(sum: u64, count: u64) -> u64
     requires { (sum < 2 ^ 53) × (count < 2 ^ 53) }
     ensures { result ≡ to_bits binary64 (Questions·mean sum count) }
 {
-    let x = mean(sum, count);
-    f64::to_bits(x)
+    mean(sum, count).to_bits()
 }
 
 // The bit patterns of the four figures.

@@ -10,7 +10,7 @@ use borrow.Author.Tests.{eqb-true, eqb-false}
 use lib.Dec.{eqb}
 use lib.ListN.{length, get_or, set, take, length-set}
 use Rattle.std.proofs.lemmas.List.{get_or_default}
-use lib.Seq.{take-suc, get_or-set_same, get_or-set_other}
+use lib.Seq.{take-suc, get_or-take, get_or-set_same, get_or-set_other}
 use Rattle.model.specs.declared.ThreadInfo.{ThreadInfo}
 use Rattle.model.specs.Types.{LeaveReason, Exit, Block, Yield, Quantum, Preempt, Forced, Move, starts, leaves, takes, ThreadRecord}
 use Rattle.model.specs.Phases
@@ -133,21 +133,29 @@ moved-still now moves ts i (suc k) j known g =
 pub turn-room : (now : ℕ) (moves : List ℕ) (ts : List ThreadInfo) (count k : ℕ) → k < count → MovesFit ts moves count → MoveRoom 1 (thread_meant (get_or (moved_by now moves k ts) (tid_at moves k) blank))
 turn-room now moves ts count k h fit = moved-still now moves ts (tid_at moves k) k 1 (λ m l. fit.known m (omega arith)) (fewer (k + 1) count (omega arith) (thread_meant (get_or ts (tid_at moves k) blank)) (fit.room k h))
 
----- a turn of the loop: move k is about record i of the list so far
+---- a turn of the loop: move k of the first `count` is about record i of the list so far
 
-pub turn-fits : (now : ℕ) (moves : List ℕ) (ts l : List ThreadInfo) (count k i : ℕ) (d : ThreadInfo) → k < count → MovesFit ts moves count → i ≡ tid_at moves k → i < length l → l ≡ moved_by now moves k ts → MoveRoom 1 (thread_meant (get_or l i d))
-turn-fits now moves ts l count k i d h fit at there e =
-    subst (λ (t : ThreadInfo). MoveRoom 1 (thread_meant t)) (sym (get_or_default l i d blank there ∙ (ap (λ (x : List ThreadInfo). get_or x i blank) e ∙ ap (λ (j : ℕ). get_or (moved_by now moves k ts) j blank) at))) (turn-room now moves ts count k h fit)
+module _ (now : ℕ) (moves : List ℕ) (ts l : List ThreadInfo) (count k i : ℕ) (d : ThreadInfo) (h : k < count) (fit : MovesFit ts moves count) (reads : i ≡ move_tid (decode (get_or (take count moves) k 0))) (e : l ≡ moved_by now moves k ts) where
+  word : get_or (take count moves) k 0 ≡ get_or moves k 0
+  word = get_or-take count moves k 0 h
 
-pub turn-moved : (now : ℕ) (moves : List ℕ) (ts l : List ThreadInfo) (k i : ℕ) (d z : ThreadInfo) → i ≡ tid_at moves k → i < length l → l ≡ moved_by now moves k ts
-    → thread_meant z ≡ moved_thread now (decode (get_or moves k 0)) (thread_meant (get_or l i d)) → set l i z ≡ moved_by now moves (k + 1) ts
-turn-moved now moves ts l k i d z at there e made =
-    let same : get_or l i d ≡ get_or (moved_by now moves k ts) (tid_at moves k) blank = get_or_default l i d blank there ∙ (ap (λ (x : List ThreadInfo). get_or x i blank) e ∙ ap (λ (j : ℕ). get_or (moved_by now moves k ts) j blank) at) in
-    let z-is : z ≡ moved_once now moves k (moved_by now moves k ts) = is-once now moves k (moved_by now moves k ts) z (made ∙ ap (λ (t : ThreadInfo). moved_thread now (decode (get_or moves k 0)) (thread_meant t)) same) in
-    rw (e, at, z-is) (moved-next now moves ts k)
+  at : i ≡ tid_at moves k
+  at = reads ∙ ap (λ (w : ℕ). move_tid (decode w)) word
 
-pub all-moved : (now : ℕ) (moves : List ℕ) (ts l : List ThreadInfo) (count k : ℕ) → k ≤ count → count ≤ k → MovesFit ts moves count → l ≡ moved_by now moves k ts
+  there : i < length l
+  there = rw (e, length_moved now moves ts k, at) (fit.known k h)
+
+  same : get_or l i d ≡ get_or (moved_by now moves k ts) (tid_at moves k) blank
+  same = get_or_default l i d blank there ∙ (ap (λ (x : List ThreadInfo). get_or x i blank) e ∙ ap (λ (j : ℕ). get_or (moved_by now moves k ts) j blank) at)
+
+  pub turn-fits : MoveRoom 1 (thread_meant (get_or l i d))
+  turn-fits = subst (λ (t : ThreadInfo). MoveRoom 1 (thread_meant t)) (sym same) (turn-room now moves ts count k h fit)
+
+  pub turn-moved : (z : ThreadInfo) → thread_meant z ≡ moved_thread now (decode (get_or (take count moves) k 0)) (thread_meant (get_or l i d)) → set l i z ≡ moved_by now moves (k + 1) ts
+  turn-moved z made =
+      let z-is : z ≡ moved_once now moves k (moved_by now moves k ts) = is-once now moves k (moved_by now moves k ts) z (made ∙ rw (word, same)) in
+      rw (e, at, z-is) (moved-next now moves ts k)
+
+pub all-moved : (now : ℕ) (moves : List ℕ) (ts l : List ThreadInfo) (count k : ℕ) → k ≡ count → MovesFit ts moves count → l ≡ moved_by now moves k ts
     → (n : ℕ) → ((j : ℕ) → j < count → tid_at moves j < n) → Front n (moved_threads now (moves_in moves count) (threads_in ts n)) ts l
-all-moved now moves ts l count k below above fit e n few =
-    let end : k ≡ count = omega arith in
-    subst (Front n (moved_threads now (moves_in moves count) (threads_in ts n)) ts) (sym (rw end at e)) (front-moved now moves ts n count fit.within fit.known few)
+all-moved now moves ts l count k end fit e n few = rw (e, end) (front-moved now moves ts n count fit.within fit.known few)

@@ -1,34 +1,33 @@
 -- The reading of a thread's record loses nothing: a record is known from what the definition reads of it.
+use Rattle.model.specs.declared.Tick.{Tick}
+use Rattle.model.specs.declared.CoreId.{CoreId}
+use Rattle.model.specs.declared.Tid.{Tid}
+use Rattle.std.specs.Prelude.{Some, None}
+use Rattle.std.specs.Prelude as Std
 use Prim.Native.Nat.{ℕ}
 use mathlib.Core.Path.{◌≡◌, refl, sym, ap, ◌∙◌}
 use mathlib.Core.Option.{Option, none, some}
-use Rattle.model.specs.declared.OptionTid.{OptionTid}
-use Rattle.model.specs.declared.OptionTid.TheVariants as option_tids
-use Rattle.model.specs.declared.OptionCore.{OptionCore}
-use Rattle.model.specs.declared.OptionCore.TheVariants as option_cores
-use Rattle.model.specs.declared.OptionTick.{OptionTick}
-use Rattle.model.specs.declared.OptionTick.TheVariants as option_ticks
-use Rattle.model.specs.declared.OptionLeave.{OptionLeave}
-use Rattle.model.specs.declared.OptionLeave.TheVariants as option_leaves
+use Rattle.model.specs.declared.LastLeave as Leaves
 use Rattle.model.specs.declared.LeaveReason as LeaveReasons
 use Rattle.model.specs.declared.LeaveReason.TheVariants as reasons
 use Rattle.model.specs.declared.ThreadState as ThreadStates
 use Rattle.model.specs.declared.ThreadState.TheVariants as thread_states
+use Rattle.model.specs.declared.LastLeave as Leaves
 use Rattle.model.specs.declared.ThreadInfo.{ThreadInfo}
 use Rattle.model.specs.Types.{LeaveReason, Exit, Block, Yield, Quantum, Preempt, Forced, ThreadState, Ready, Exited, OnCore, Blocked, LastLeave, ThreadRecord}
 use Rattle.model.specs.Reading.{option_tid_meant, option_core_meant, option_tick_meant, option_leave_meant, reason_meant, thread_state_meant, thread_meant}
 
-abbrev tid_of : Option ℕ → OptionTid
-tid_of none = option_tids.None
-tid_of (some n) = option_tids.Some (record { 0 = n })
+abbrev tid_of : Option ℕ → Std.Option Tid
+tid_of none = None
+tid_of (some n) = Some (record { 0 = n })
 
-abbrev core_of : Option ℕ → OptionCore
-core_of none = option_cores.None
-core_of (some n) = option_cores.Some (record { 0 = n })
+abbrev core_of : Option ℕ → Std.Option CoreId
+core_of none = None
+core_of (some n) = Some (record { 0 = n })
 
-abbrev tick_of : Option ℕ → OptionTick
-tick_of none = option_ticks.None
-tick_of (some n) = option_ticks.Some (record { 0 = n })
+abbrev tick_of : Option ℕ → Std.Option Tick
+tick_of none = None
+tick_of (some n) = Some (record { 0 = n })
 
 abbrev reason_of : LeaveReason → LeaveReasons.LeaveReason
 reason_of Exit = reasons.Exit
@@ -44,9 +43,9 @@ state_of (OnCore i) = thread_states.Running (record { 0 = i })
 state_of (Blocked t) = thread_states.Blocked (record { 0 = t })
 state_of Exited = thread_states.Exited
 
-abbrev leave_of : Option LastLeave → OptionLeave
-leave_of none = option_leaves.None
-leave_of (some l) = option_leaves.Some (record { tick = record { 0 = l.tick }; core = record { 0 = l.core }; reason = reason_of l.reason })
+abbrev leave_of : Option LastLeave → Std.Option Leaves.LastLeave
+leave_of none = None
+leave_of (some l) = Some (record { tick = record { 0 = l.tick }; core = record { 0 = l.core }; reason = reason_of l.reason })
 
 -- the program's value for a record of the definition
 unfoldable pub thread_of : ThreadRecord → ThreadInfo
@@ -73,17 +72,17 @@ thread_of t =
       };
     }
 
-tid-back : (t : OptionTid) → tid_of (option_tid_meant t) ≡ t
-tid-back option_tids.None = refl
-tid-back (option_tids.Some t) = refl
+tid-back : (t : Std.Option Tid) → tid_of (option_tid_meant t) ≡ t
+tid-back None = refl
+tid-back (Some t) = refl
 
-core-back : (c : OptionCore) → core_of (option_core_meant c) ≡ c
-core-back option_cores.None = refl
-core-back (option_cores.Some c) = refl
+core-back : (c : Std.Option CoreId) → core_of (option_core_meant c) ≡ c
+core-back None = refl
+core-back (Some c) = refl
 
-tick-back : (n : OptionTick) → tick_of (option_tick_meant n) ≡ n
-tick-back option_ticks.None = refl
-tick-back (option_ticks.Some n) = refl
+tick-back : (n : Std.Option Tick) → tick_of (option_tick_meant n) ≡ n
+tick-back None = refl
+tick-back (Some n) = refl
 
 reason-back : (r : LeaveReasons.LeaveReason) → reason_of (reason_meant r) ≡ r
 reason-back reasons.Exit = refl
@@ -99,9 +98,9 @@ state-back (thread_states.Running c) = refl
 state-back (thread_states.Blocked t) = refl
 state-back thread_states.Exited = refl
 
-leave-back : (l : OptionLeave) → leave_of (option_leave_meant l) ≡ l
-leave-back option_leaves.None = refl
-leave-back (option_leaves.Some l) = rw (reason-back l.reason)
+leave-back : (l : Std.Option Leaves.LastLeave) → leave_of (option_leave_meant l) ≡ l
+leave-back None = refl
+leave-back (Some l) = rw (reason-back l.reason)
 
 pub thread-back : (t : ThreadInfo) → thread_of (thread_meant t) ≡ t
 unfolding thread_of

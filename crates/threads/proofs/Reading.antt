@@ -4,6 +4,7 @@ use native.Mathlib.Omega.{arith}
 use mathlib.Core.Path.{◌≡◌, refl, sym, ap, subst, ◌∙◌}
 use mathlib.Core.List.{List, [], ◌++◌, map}
 use lib.ListN.{length, get_or, take, drop}
+use lib.Seq.{get_or-take}
 use Rattle.std.proofs.lemmas.List.{get_or_default}
 use Rattle.model.specs.declared.ThreadInfo.{ThreadInfo}
 use Rattle.model.specs.Types.{ThreadRecord}
@@ -32,9 +33,12 @@ sums-fit ts i n h g = totals-front (threads_in ts i) (map thread_meant (take (n 
     parts : threads_in ts n ≡ threads_in ts i ++ map thread_meant (take (n - i) (drop i ts))
     parts = ap (threads_in ts) (back i n h) ∙ threads-add ts i (n - i)
 
-pub turn-sums : (ts : List ThreadInfo) (i : ℕ) (d : ThreadInfo) (sums : Totals) → i < length ts → sums ≡ totals_of (threads_in ts i) → add_totals sums (thread_meant (get_or ts i d)) ≡ totals_of (threads_in ts (i + 1))
-turn-sums ts i d sums h e = rw (e, get_or_default ts i d blank h) (sums_next ts i h)
+-- record i is read from the first n
+pub turn-sums : (ts : List ThreadInfo) (i n : ℕ) (d : ThreadInfo) (sums : Totals) → i < n → n ≤ length ts → sums ≡ totals_of (threads_in ts i) → add_totals sums (thread_meant (get_or (take n ts) i d)) ≡ totals_of (threads_in ts (i + 1))
+turn-sums ts i n d sums h within e =
+    let l : i < length ts = omega arith in
+    rw (e, get_or-take n ts i d h, get_or_default ts i d blank l) (sums_next ts i l)
 
 -- the sums so far have room for the next record
-pub turn-fits : (ts : List ThreadInfo) (i n : ℕ) (d : ThreadInfo) (sums : Totals) → i < n → n ≤ length ts → sums ≡ totals_of (threads_in ts i) → TotalsFit (totals_of (threads_in ts n)) → TotalsFit (add_totals sums (thread_meant (get_or ts i d)))
-turn-fits ts i n d sums h within e fit = subst TotalsFit (sym (turn-sums ts i d sums (omega arith) e)) (sums-fit ts (i + 1) n (omega arith) fit)
+pub turn-fits : (ts : List ThreadInfo) (i n : ℕ) (d : ThreadInfo) (sums : Totals) → i < n → n ≤ length ts → sums ≡ totals_of (threads_in ts i) → TotalsFit (totals_of (threads_in ts n)) → TotalsFit (add_totals sums (thread_meant (get_or (take n ts) i d)))
+turn-fits ts i n d sums h within e fit = subst TotalsFit (sym (turn-sums ts i n d sums h within e)) (sums-fit ts (i + 1) n (omega arith) fit)

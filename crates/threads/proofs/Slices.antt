@@ -8,7 +8,7 @@ use native.Mathlib.Omega.{arith}
 use mathlib.Core.Option.{some}
 use lib.ListN.{length, get_or, get_elem?, set, take, drop, length-take, length-map, length-append, length-drop, take-append-drop}
 use Rattle.std.proofs.lemmas.List.{get_or-drop, get_or_default}
-use lib.Seq.{drop-set-lt, drop-drop, take-set-lt, get_or-take, take-suc, take-suc-set, take-add, length-take-le, take_at, drop_at}
+use lib.Seq.{drop-set-lt, drop-drop, take-set-lt, get_or-take, take-suc, take-suc-set, take-add, take-take, take-length, length-take-le, take_at, drop_at}
 use Rattle.model.specs.declared.ThreadInfo.{ThreadInfo}
 use Rattle.model.specs.Types.{Core, ThreadRecord}
 use Rattle.model.specs.Phases
@@ -103,6 +103,29 @@ front-next f n wanted before after d z h e was =
     record {
       front = threads-set after n z h ∙ rw (was.front, e ∙ ap (λ (t : ThreadInfo). f (thread_meant t)) (get-behind n wanted before after d h was));
       rest = drop-set-lt (n + 1) after n z (omega arith) ∙ (sym (drop-drop 1 n after) ∙ (ap (drop 1) was.rest ∙ drop-drop 1 n before));
+    }
+
+---- the first n records lent as a part, that a loop goes over
+
+-- a record of the part that the loop has not reached
+pub kept-ahead : (P : ThreadRecord → Type 0) (n i : ℕ) (wanted : List ThreadRecord) (before part : List ThreadInfo) (d : ThreadInfo) → i < n → i < length part → Front i wanted (take n before) part → P (thread_meant (get_or before i blank)) → P (thread_meant (get_or part i d))
+kept-ahead P n i wanted before part d l h f p = kept-behind P i wanted (take n before) part d h f (rw (get_or-take n before i blank l) p)
+
+pub threads-part : (ts : List ThreadInfo) (n : ℕ) → threads_in (take n ts) n ≡ threads_in ts n
+unfolding threads_in
+threads-part ts n = ap (map thread_meant) (take-take n n ts (omega arith))
+
+part-whole : (n : ℕ) (part behind : List ThreadInfo) → length part ≡ n → threads_in (part ++ behind) n ≡ threads_in part n
+unfolding threads_in
+part-whole n part behind e = ap (map thread_meant) (take_at part behind n e ∙ (sym (take-length part) ∙ ap (λ (k : ℕ). take k part) e))
+
+-- what the loop has made of the whole part stands in front of the records behind it
+pub front-part : (make : List ThreadRecord → List ThreadRecord) (n i : ℕ) (before part : List ThreadInfo) → i ≡ n → length part ≡ n → Front i (make (threads_in (take n before) i)) (take n before) part
+    → Front n (make (threads_in before n)) before (part ++ drop n before)
+front-part make n i before part at e f =
+    record {
+      front = part-whole n part (drop n before) e ∙ (subst (λ (k : ℕ). threads_in part k ≡ make (threads_in (take n before) k)) at f.front ∙ ap make (threads-part before n));
+      rest = drop_at part (drop n before) n e;
     }
 
 ---- every record charged

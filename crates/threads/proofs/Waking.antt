@@ -6,7 +6,7 @@ use mathlib.Core.List.{List, [], ◌∷◌, ◌++◌, map, map-append, append_as
 use native.Mathlib.Nat.{add-zero, zero-add}
 use native.Mathlib.Numerals.{add-one}
 use native.Mathlib.Omega.{arith}
-use lib.ListN.{length, get_or, set, take, drop, length-append}
+use lib.ListN.{length, get_or, set, take, drop, length-append, length-take}
 use lib.Seq.{drop-drop, append_snoc}
 use Rattle.model.specs.declared.ThreadInfo.{ThreadInfo}
 use Rattle.model.specs.Types.{ThreadRecord, Ready, Accounts}
@@ -16,7 +16,7 @@ use Rattle.model.specs.Calls.{blocked_on, waiters, wake}
 use Rattle.model.specs.Reading.{thread_meant}
 use Rattle.records.specs.Waking.{woken_by, waiter_at, Pushed}
 use Rattle.threads.specs.Slice.{blank, threads_in, Front, WakeFit, woken_threads, Woken}
-use Rattle.threads.proofs.Slices.{threads-add, threads-back, length-threads, length-update, get-behind, kept-behind, front-next}
+use Rattle.threads.proofs.Slices.{threads-add, threads-back, threads-part, length-threads, length-update, get-behind, kept-behind, front-next, front-part}
 
 ---- the records
 
@@ -164,3 +164,15 @@ turn-fits n on before after d len q i to q₁ fit h long long' was = (
   omega (arith, fit.few),
   kept-behind (λ t. to + length (waiter_at on i t) ≤ length q₁) i _ before after d (omega (arith, fit.within)) was.threads (omega (arith, push-fits n on before q len i fit h, was.queued.count)),
 )
+
+---- the part that the loop goes over
+
+pub part-fits : (n on : ℕ) (ts : List ThreadInfo) (q : List ℕ) (len : ℕ) → WakeFit n on ts q len → WakeFit n on (take n ts) q len
+part-fits n on ts q len fit = record { within = simp length-take (omega (arith, fit.within)); few = fit.few; room = rw (threads-part ts n) fit.room }
+
+pub woken-part : (n on i : ℕ) (before part : List ThreadInfo) (len : ℕ) (q : List ℕ) (to : ℕ) (q₁ : List ℕ) → i ≡ n → length part ≡ n → Woken i on (take n before) part len q to q₁ → Woken n on before (part ++ drop n before) len q to q₁
+woken-part n on i before part len q to q₁ at e w =
+    record {
+      threads = front-part (λ (ts : List ThreadRecord). woken_threads (waiters on 0 ts) ts) n i before part at e w.threads;
+      queued = subst (λ (ts : List ThreadRecord). Pushed (waiters on 0 ts) len q to q₁) (ap (threads_in (take n before)) at ∙ threads-part before n) w.queued;
+    }

@@ -1,11 +1,7 @@
 -- What the contracts over the lent slice of thread records cite.
-use Rattle.std.specs.Prelude.{ℕ, ◌+◌, ◌<◌, ◌≤◌, ◌≡◌, List, [], ◌∷◌, map, length, get_or, take, drop}
+use Rattle.std.specs.Prelude.{ℕ, ◌+◌, ◌<◌, ◌≤◌, ◌≡◌, List, [], ◌∷◌, map, length, get_or, take, drop, None}
 use Rattle.model.specs.declared.ThreadInfo.{ThreadInfo}
 use Rattle.model.specs.declared.ThreadState.TheVariants as thread_states
-use Rattle.model.specs.declared.OptionTid.TheVariants as option_tids
-use Rattle.model.specs.declared.OptionCore.TheVariants as option_cores
-use Rattle.model.specs.declared.OptionTick.TheVariants as option_ticks
-use Rattle.model.specs.declared.OptionLeave.TheVariants as option_leaves
 use Rattle.model.specs.Types.{ThreadRecord, Ready}
 use Rattle.model.specs.Phases
 use Rattle.model.specs.Accounting.{set_state}
@@ -19,17 +15,17 @@ use Rattle.records.specs.Waking.{Pushed}
 pub blank : ThreadInfo
 blank = record {
   tid = record { 0 = 0 };
-  parent = option_tids.None;
+  parent = None;
   entry_pc = 0;
   priority = 0;
   state = thread_states.Exited;
-  last_core = option_cores.None;
-  last_dispatch = option_ticks.None;
-  last_leave = option_leaves.None;
+  last_core = None;
+  last_dispatch = None;
+  last_leave = None;
   stats = record {
     arrival = record { 0 = 0 };
-    first_run = option_ticks.None;
-    finish = option_ticks.None;
+    first_run = None;
+    finish = None;
     run_ticks = 0;
     ready_ticks = 0;
     blocked_ticks = 0;

@@ -13,13 +13,12 @@ ghost use Rattle.record_reads.specs.Totals.{totals_of, TotalsFit};
 ghost use Rattle.records.specs.Changes.{change_meant, Fits};
 ghost use Rattle.threads.specs.Slice.{blank, threads_in, Front, AllChargeable, tid_at, MovesFit, WakeFit, Woken};
 
-use charges::charge;
+use charges::charge::{CoreThreads, charged};
 use model::{CoreState, ThreadInfo, Tick, Tid};
 use record_moves::moves;
-use record_reads::totals::Totals;
-use record_reads::{read, totals};
-use records::change;
-use records::change::Change;
+use record_reads::read;
+use record_reads::totals::{Totals, totaled};
+use records::change::{self, Change};
 
 // A copy of record i.
 pub fn record_at(threads: &[ThreadInfo], i: usize) -> ThreadInfo
@@ -42,11 +41,9 @@ pub fn charge_all(threads: &mut [ThreadInfo], n: usize, cores: [CoreState; 8])
     requires { (n ≤ length threads.old) × AllChargeable n threads.old }
     ensures { Front n (charge_threads (cores_meant cores) 0 (threads_in threads.old n)) threads.old threads.new }
 {
-    let on = charge::core_threads(cores);
-    let mut i = 0;
-    while i < n {
-        threads[i] = charge::charged(threads[i], i, on);
-        i += 1;
+    let on = CoreThreads::new(cores);
+    for (i, t) in threads[..n].iter_mut().enumerate() {
+        *t = charged(*t, i, on);
     }
 }
 
@@ -55,12 +52,9 @@ pub fn apply_moves(threads: &mut [ThreadInfo], moves: &[u64], count: usize, tick
     requires { MovesFit threads.old moves.now count }
     ensures { (n : ℕ) → ((k : ℕ) → k < count → tid_at moves.now k < n) → Front n (moved_threads tick.0 (moves_in moves.now count) (threads_in threads.old n)) threads.old threads.new }
 {
-    let mut k = 0;
-    while k < count {
-        let word = moves[k];
+    for &word in &moves[..count] {
         let i = moves::move_tid(word);
         threads[i] = moves::applied(threads[i], word, tick);
-        k += 1;
     }
 }
 
@@ -69,11 +63,9 @@ pub fn totals(threads: &[ThreadInfo], n: usize) -> Totals
     requires { (n ≤ length threads.now) × TotalsFit (totals_of (threads_in threads.now n)) }
     ensures { result ≡ totals_of (threads_in threads.now n) }
 {
-    let mut sums = totals::no_threads();
-    let mut i = 0;
-    while i < n {
-        sums = totals::totaled(sums, threads[i]);
-        i += 1;
+    let mut sums = Totals::default();
+    for &t in &threads[..n] {
+        sums = totaled(sums, t);
     }
     sums
 }
@@ -90,12 +82,9 @@ pub fn wake_waiters(
     ensures { Woken n on.0 threads.old threads.new len queue.old result queue.new }
 {
     let mut to = len;
-    let mut i = 0;
-    while i < n {
-        let t = threads[i];
-        to = read::push_waiter(queue, to, t, on, i);
-        threads[i] = change::woken(t, on);
-        i += 1;
+    for (i, t) in threads[..n].iter_mut().enumerate() {
+        to = read::push_waiter(queue, to, *t, on, i);
+        *t = change::woken(*t, on);
     }
     to
 }

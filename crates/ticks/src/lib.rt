@@ -10,29 +10,23 @@ ghost use Rattle.ticks.specs.Room.{TicksRoom};
 use model::{CoreState, CoreTicks};
 
 // Adds 1 to exactly one of the three counters, and writes nothing beside it.
+#[tactic(auto, unfolding(model::specs::Accounting::charge_core))]
 pub fn charge_core(ticks: &mut CoreTicks, state: CoreState)
     requires { TicksRoom ticks.old }
     ensures { core_ticks_meant ticks.new ≡ charge_core (core_state_meant state) (core_ticks_meant ticks.old) }
 {
     match state {
-        CoreState::Idle => {
-            ticks.idle = ticks.idle + 1;
-        }
-        CoreState::Switching { tid: _, left: _ } => {
-            ticks.switching = ticks.switching + 1;
-        }
-        CoreState::Running { tid: _, slice: _ } => {
-            ticks.busy = ticks.busy + 1;
-        }
+        CoreState::Idle => ticks.idle += 1,
+        CoreState::Switching { .. } => ticks.switching += 1,
+        CoreState::Running { .. } => ticks.busy += 1,
     }
 }
 
 // The same by value: it lends a copy, so that whoever calls it holds no reference.
-pub fn charged_ticks(ticks: CoreTicks, state: CoreState) -> CoreTicks
+pub fn charged_ticks(mut ticks: CoreTicks, state: CoreState) -> CoreTicks
     requires { TicksRoom ticks }
     ensures { core_ticks_meant result ≡ charge_core (core_state_meant state) (core_ticks_meant ticks) }
 {
-    let mut u = ticks;
-    charge_core(&mut u, state);
-    u
+    charge_core(&mut ticks, state);
+    ticks
 }

@@ -1,11 +1,7 @@
-use Prim.Native.Nat.{◌-◌, ◌≤◌}
 use mathlib.Core.Path.{◌≡◌}
 use lib.ListN.{length}
 use Rattle.accounts.specs.Charging.{TicksCharged}
 use Rattle.accounts.proofs.counters.charge_ticks.Given as goal
 
 abbrev pub invariant-loop-i : goal.invariant-loop-i
-invariant-loop-i l = (l.i ≤ l.n) × (length l.charged ≡ 8) × TicksCharged l.i l.states l.initial.charged l.charged
-
-abbrev pub decreases-loop-i : goal.decreases-loop-i
-decreases-loop-i l = 8 - l.i
+invariant-loop-i l = (length l.charged ≡ 8) × TicksCharged l.i l.states l.initial.charged l.charged

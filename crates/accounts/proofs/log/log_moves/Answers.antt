@@ -1,7 +1,5 @@
-use borrow.Author.Rules.{rules}
 use native.Mathlib.Omega.{arith}
-use Prim.Native.Nat.{◌-◌}
-use mathlib.Core.Path.{◌≡◌, ◌∙◌}
+use mathlib.Core.Path.{◌≡◌, refl, ◌∙◌}
 use lib.ListN.{length}
 use Rattle.queue.specs.Words.{move_meant}
 use Rattle.rings.specs.Events.{events_in}
@@ -10,23 +8,13 @@ use Rattle.accounts.proofs.Logging.{moved_none, moved-next}
 use Rattle.accounts.proofs.log.log_moves.Goals as goal
 
 pub loop-k-init : goal.loop-k-init
-loop-k-init c = (search rules, search rules, search rules, moved_none _ _ _ _, behind-none _ _)
+loop-k-init c = (refl, c.requires.0, moved_none _ _ _ _, behind-none _ _)
 
 pub loop-k-preserved : goal.loop-k-preserved
 loop-k-preserved c =
-    let z : length c.log_move-p.new.ring ≡ length c.loop-k.ring = c.ring-1.given in (
-      omega (arith, c.loop-k-test.true),
-      z ∙ c.loop-k.invariant.1,
+    let z : length c.log_move-p.new.ring ≡ length c.loop-k.ring = c.log_move-p.auto.ring in (
+      z ∙ c.loop-k.invariant.0,
       c.log_move-p.ensures.ok,
-      moved-next (length c.args.ring.now) (length c.loop-k.ring) c.args.tick.0 c.args.moves.now c.loop-k.k (move_meant c.move_at-m.result) (events_in c.args.ring.now c.args.pos) (events_in c.loop-k.ring c.loop-k.p) _ (omega (arith, c.loop-k-test.true, c.requires.1)) c.loop-k.invariant.1 c.move_at-m.ensures c.loop-k.invariant.3 c.log_move-p.ensures.events,
-      behind-both c.loop-k.invariant.4 c.log_move-p.ensures.behind,
+      moved-next (length c.args.ring.now) (length c.loop-k.ring) c.args.tick.0 c.args.moves.now c.loop-k.k (move_meant c.move_at-m.result) (events_in c.args.ring.now c.args.pos) (events_in c.loop-k.ring c.loop-k.p) _ (omega arith) c.loop-k.invariant.0 c.move_at-m.ensures c.loop-k.invariant.2 c.log_move-p.ensures.events,
+      behind-both c.loop-k.invariant.3 c.log_move-p.ensures.behind,
     )
-
-pub returns : goal.returns
-returns c =
-    let e : c.loop-k.k ≡ c.args.count = omega (arith, c.loop-k.invariant.0, c.loop-k-test.false) in
-    record {
-      ok = c.loop-k.invariant.2;
-      events = rw (← e) c.loop-k.invariant.3;
-      behind = c.loop-k.invariant.4;
-    }

@@ -1,4 +1,3 @@
-use Prim.Native.Nat.{◌-◌, ◌≤◌}
 use mathlib.Core.Path.{◌≡◌}
 use lib.ListN.{length}
 use Rattle.queue.specs.Words.{moves_in}
@@ -8,7 +7,4 @@ use Rattle.accounts.specs.Log.{moved_log}
 use Rattle.accounts.proofs.log.log_moves.Given as goal
 
 abbrev pub invariant-loop-k : goal.invariant-loop-k
-invariant-loop-k l = (l.k ≤ l.count) × (length l.ring ≡ length l.initial.ring) × RingOK l.ring l.p × (events_in l.ring l.p ≡ moved_log (capacity l.initial.ring) l.tick.0 (moves_in l.moves l.k) (events_in l.initial.ring l.initial.p)) × Behind l.initial.ring l.ring l.initial.p l.p
-
-abbrev pub decreases-loop-k : goal.decreases-loop-k
-decreases-loop-k l = l.count - l.k
+invariant-loop-k l = (length l.ring ≡ length l.initial.ring) × RingOK l.ring l.p × (events_in l.ring l.p ≡ moved_log (capacity l.initial.ring) l.tick.0 (moves_in l.moves l.k) (events_in l.initial.ring l.initial.p)) × Behind l.initial.ring l.ring l.initial.p l.p

@@ -1,5 +1,6 @@
+use mathlib.Core.Path.{refl}
 use Rattle.records.proofs.Steps.{leave-step}
 use Rattle.records.proofs.change.departed.Goals as goal
 
 pub returns : goal.returns
-returns c = leave-step _ _ _ _ _ _ c.off_core-u.ensures c.with_leave.ensures
+returns c = leave-step _ _ _ _ _ _ c.off_core.ensures refl

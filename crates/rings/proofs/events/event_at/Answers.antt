@@ -6,4 +6,4 @@ use Rattle.rings.proofs.events.event_at.Goals as goal
 
 pub returns : goal.returns
 returns c =
-    event-read c.args.ring.now c.args.pos c.args.k c.entry_at-entry.result _ c.entry_at-entry.ensures (ap (λ (x : EventKind). record { tick = c.entry_at-entry.result.first / 4_294_967_296; tid = c.entry_at-entry.result.first % 4_294_967_296; kind = x }) c.kind_of-kind.ensures)
+    event-read c.args.ring.now c.args.pos c.args.k c.entry_at-first.result _ c.entry_at-first.ensures (ap (λ (x : EventKind). record { tick = c.entry_at-first.result.first / 4_294_967_296; tid = c.entry_at-first.result.first % 4_294_967_296; kind = x }) c.kind_of.ensures)

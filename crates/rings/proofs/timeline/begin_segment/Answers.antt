@@ -9,10 +9,10 @@ use Rattle.rings.proofs.timeline.begin_segment.Goals as goal
 pub returns : goal.returns
 returns c =
     let l = lane_meant c.args.lane in
-    let e : Entry = record { first = (c.args.tick.0 + 1) * 4_294_967_296 + c.lane_tid-tid.result; second = c.args.tick.0 * 4 + c.lane_code-code.result } in
+    let e : Entry = record { first = (c.args.tick.0 + 1) * 4_294_967_296 + c.lane_tid.result; second = c.args.tick.0 * 4 + c.lane_code.result } in
     let v : Segment = record { lane = l; start = c.args.tick.0; end = c.args.tick.0 + 1 } in
     record {
       ok = c.push_entry.ensures.ok;
-      segments = segment-written (capacity c.args.ring.now) c.args.ring.now c.push_entry.new.ring c.args.pos c.push_entry.result e v c.push_entry.ensures.entries (segment-packed l c.args.tick.0 (c.args.tick.0 + 1) c.lane_tid-tid.result c.lane_code-code.result c.lane_tid-tid.ensures.0 c.lane_tid-tid.ensures.1 c.lane_code-code.ensures.0 c.lane_code-code.ensures.1);
+      segments = segment-written (capacity c.args.ring.now) c.args.ring.now c.push_entry.new.ring c.args.pos c.push_entry.result e v c.push_entry.ensures.entries (segment-packed l c.args.tick.0 (c.args.tick.0 + 1) c.lane_tid.result c.lane_code.result c.lane_tid.ensures.0 c.lane_tid.ensures.1 c.lane_code.ensures.0 c.lane_code.ensures.1);
       behind = c.push_entry.ensures.behind;
     }

@@ -10,16 +10,16 @@ use Rattle.rings.specs.Timeline.{lane_from}
 use Rattle.rings.proofs.TimelineLaws.{begins-first, begins-next, grows, ends_at}
 use Rattle.rings.proofs.timeline.charge_lane.Goals as goal
 
-pub returns-then-len-eq0 : goal.returns-then-len-eq0
-returns-then-len-eq0 c = record {
+pub returns-then-pos-eq0 : goal.returns-then-pos-eq0
+returns-then-pos-eq0 c = record {
   ok = c.begin_segment.ensures.ok;
-  segments = c.begin_segment.ensures.segments ∙ ap (newest (capacity c.args.ring.now)) (begins-first c.args.ring.now c.args.pos c.args.tick.0 (lane_meant c.args.lane) c.if-len-eq0.true);
+  segments = c.begin_segment.ensures.segments ∙ ap (newest (capacity c.args.ring.now)) (begins-first c.args.ring.now c.args.pos c.args.tick.0 (lane_meant c.args.lane) c.if-pos-eq0.true);
   behind = c.begin_segment.ensures.behind;
 }
 
 pub returns-then-not-continues : goal.returns-then-not-continues
 returns-then-not-continues c =
-    let l : 0 < c.args.pos.len = omega (arith, c.if-len-eq0.false) in
+    let l : 0 < c.args.pos.len = omega (arith, c.if-pos-eq0.false) in
     let next = begins-next c.args.ring.now c.args.pos c.args.tick.0 (lane_meant c.args.lane) c.requires.0 l (sym (not-true _ c.if-not-continues.true-raw) ∙ c.continues.ensures) in
     record {
       ok = c.begin_segment-then-not-continues.ensures.ok;
@@ -36,7 +36,7 @@ overflow_add-ring c =
 
 pub returns : goal.returns
 returns c =
-    let l : 0 < c.args.pos.len = omega (arith, c.if-len-eq0.false) in
+    let l : 0 < c.args.pos.len = omega (arith, c.if-pos-eq0.false) in
     record {
       ok = (grows c.args.ring.now c.args.pos c.args.tick.0 (lane_meant c.args.lane) c.requires.0 l (sym (not-false _ c.if-not-continues.false-raw) ∙ c.continues.ensures)).0;
       segments = (grows c.args.ring.now c.args.pos c.args.tick.0 (lane_meant c.args.lane) c.requires.0 l (sym (not-false _ c.if-not-continues.false-raw) ∙ c.continues.ensures)).1.0;

@@ -6,4 +6,4 @@ use Rattle.rings.proofs.timeline.segment_at.Goals as goal
 
 pub returns : goal.returns
 returns c =
-    segment-read c.args.ring.now c.args.pos c.args.k c.entry_at-entry.result _ c.entry_at-entry.ensures (ap (λ (x : Lane). record { lane = x; start = c.entry_at-entry.result.second / 4; end = c.entry_at-entry.result.first / 4_294_967_296 }) c.lane_of-lane.ensures)
+    segment-read c.args.ring.now c.args.pos c.args.k c.entry_at-first.result _ c.entry_at-first.ensures (ap (λ (x : Lane). record { lane = x; start = c.entry_at-first.result.second / 4; end = c.entry_at-first.result.first / 4_294_967_296 }) c.lane_of.ensures)
