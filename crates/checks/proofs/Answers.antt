@@ -1,4 +1,5 @@
 -- From a check's answer to the call's promise.
+use Rattle.std.specs.Prelude.{Ok, Err, Result}
 use Prim.Native.Nat.{ℕ}
 use mathlib.Core.Path.{◌≡◌, sym, ap, ◌∙◌, subst}
 use mathlib.Core.Option.{Option, none}
@@ -6,8 +7,6 @@ use mathlib.Core.List.{List}
 use native.Mathlib.Omega.{arith}
 use Rattle.settings.specs.declared.Refusal.{Refusal}
 use Rattle.settings.specs.Reading.{refusal_number}
-use Rattle.model.specs.declared.CallAnswer.{CallAnswer}
-use Rattle.model.specs.declared.CallAnswer.TheVariants as CallCases
 use Rattle.model.specs.declared.ThreadInfo.{ThreadInfo}
 use Rattle.model.specs.Calls.{Call, Answer, refused, ok, refusal}
 use Rattle.model.specs.Reading.{call_answer_meant}
@@ -19,10 +18,10 @@ use Rattle.state.proofs.Doing.{done_refused}
 use Rattle.checks.specs.Check.{check_meant}
 
 -- a check that passed: the call is not refused
-pub taken_none : (a : CallAnswer) (r : Option ℕ) → a ≡ CallCases.Taken → check_meant a ≡ r → r ≡ none
+pub taken_none : (a : Result Unit Refusal) (r : Option ℕ) → a ≡ Ok tt → check_meant a ≡ r → r ≡ none
 taken_none a r e h = sym h ∙ ap check_meant e
 
-pub taken-ok : (a : CallAnswer) → a ≡ CallCases.Taken → call_answer_meant a ≡ ok
+pub taken-ok : (a : Result Unit Refusal) → a ≡ Ok tt → call_answer_meant a ≡ ok
 taken-ok a e = ap call_answer_meant e
 
 pub ok-unrefused : (a : Answer) → a ≡ ok → (n : ℕ) → a ≡ refused n → ⊥
@@ -30,7 +29,7 @@ ok-unrefused a e n f = let z : ◌≡◌ {A = ℕ} 0 1 = cc in omega arith
 
 -- a check that refused: nothing is done
 pub refused-done :
-    (c : Call) (s : Sched) (ts : List ThreadInfo) (qs ps ls ws : List ℕ) → Valid s (memory ts qs ps ls ws) → (a : CallAnswer) (x : Refusal) (r : Option ℕ) → a ≡ CallCases.Refused x → check_meant a ≡ r
+    (c : Call) (s : Sched) (ts : List ThreadInfo) (qs ps ls ws : List ℕ) → Valid s (memory ts qs ps ls ws) → (a : Result Unit Refusal) (x : Refusal) (r : Option ℕ) → a ≡ Err x → check_meant a ≡ r
     → refusal (meant_at s ts qs ls ws) c ≡ r → Done c (call_answer_meant a) s s (memory ts qs ps ls ws) (memory ts qs ps ls ws)
 refused-done c s ts qs ps ls ws v a x r e h k =
     subst (λ (y : Answer). Done c y s s (memory ts qs ps ls ws) (memory ts qs ps ls ws)) (sym (ap call_answer_meant e)) (done_refused c s ts qs ps ls ws v (refusal_number x) (k ∙ sym h ∙ ap check_meant e))

@@ -1,9 +1,8 @@
 -- What the checks answer. Each is the definition's `refusal`, read off the program's state (proofs/Refusals).
-use Rattle.std.specs.Prelude.{ℕ, Bool, true, false, not, ◌||◌, leb, get_or}
+use Rattle.settings.specs.declared.Refusal.{Refusal}
+use Rattle.std.specs.Prelude.{ℕ, Bool, true, false, not, ◌||◌, leb, get_or, Ok, Err, Result}
 use Rattle.std.proofs.Math.Option.{Option, none, some}
 use Rattle.settings.specs.Reading.{refusal_number}
-use Rattle.model.specs.declared.CallAnswer.{CallAnswer}
-use Rattle.model.specs.declared.CallAnswer.TheVariants as CallCases
 use Rattle.model.specs.declared.CoreState.TheVariants as CoreStateCases
 use Rattle.model.specs.Types.{CoreState}
 use Rattle.model.specs.Calls.{check, is_idle, is_running, bad_timing, limit_now}
@@ -11,9 +10,9 @@ use Rattle.model.specs.Reading.{core_state_meant}
 use Rattle.state.specs.declared.Sched.{Sched}
 use Rattle.state.specs.State.{states_of}
 
-abbrev pub check_meant : CallAnswer → Option ℕ
-check_meant CallCases.Taken = none
-check_meant (CallCases.Refused r) = some (refusal_number r)
+abbrev pub check_meant : Result Unit Refusal → Option ℕ
+check_meant (Ok tt) = none
+check_meant (Err r) = some (refusal_number r)
 
 -- 01: "13 core idle, or switching for join and yield"
 abbrev pub stops : (running : Bool) → CoreState → Bool

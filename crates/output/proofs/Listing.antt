@@ -4,8 +4,9 @@ use mathlib.Core.Path.{◌≡◌, sym, ap, ◌∙◌}
 use mathlib.Core.List.{List, [], ◌∷◌, ◌++◌, append_assoc, append-nil}
 use native.Mathlib.Omega.{arith}
 use native.Mathlib.Nat.{add-zero}
-use lib.ListN.{length, get_or, length-append}
-use lib.Seq.{paste-zero}
+use native.Mathlib.Numerals.{add-one}
+use lib.ListN.{length, get_or, take, length-append}
+use lib.Seq.{paste-zero, get_or-take}
 use Rattle.text.specs.Buffers.{Put}
 use Rattle.text.proofs.Puts.{put_same}
 use Rattle.model.specs.declared.SwitchWords.{SwitchWords}
@@ -37,15 +38,18 @@ pub put-none : (b : List ℕ) (at now : ℕ) (es : List SwitchWords) → Put b a
 unfolding switch_texts
 put-none b at now es = record { bytes = paste-zero b at []; end = sym (add-zero at) }
 
-module _ (b : List ℕ) (at now : ℕ) (es : List SwitchWords) (i n : ℕ) (d : SwitchWords) (b₁ : List ℕ) (r₁ : ℕ) (l : i < n) (h : i < length es) (f : at + length (switch_texts now (switches_meant es n)) ≤ length b) (p : Put b at (switch_texts now (switches_meant es i)) b₁ r₁) where
+-- entry i is read from the first n
+module _ (b : List ℕ) (at now : ℕ) (es : List SwitchWords) (i n : ℕ) (d : SwitchWords) (b₁ : List ℕ) (r₁ : ℕ) (l : i < n) (h : n ≤ length es) (f : at + length (switch_texts now (switches_meant es n)) ≤ length b) (p : Put b at (switch_texts now (switches_meant es i)) b₁ r₁) where
   room : Room b at (switch_texts now (switches_meant es i) ∷ switch_text now (switch_words_meant (get_or es i d)) ∷ [])
   room = record { fits = omega (arith, ap length (texts-next now es i d (omega arith)), texts-more now es (suc i) n (omega arith)) }
 
-  pub next-room : r₁ + length (switch_text now (switch_words_meant (get_or es i d))) ≤ length b₁
-  next-room = room-last (room_next p room)
+  pub next-room : r₁ + length (switch_text now (switch_words_meant (get_or (take n es) i d))) ≤ length b₁
+  next-room = rw (get_or-take n es i d l) (room-last (room_next p room))
 
-  pub put_one : (b₂ : List ℕ) (r₂ : ℕ) → Put b₁ r₁ (switch_text now (switch_words_meant (get_or es i d))) b₂ r₂ → Put b at (switch_texts now (switches_meant es (suc i))) b₂ r₂
-  put_one b₂ r₂ q = put_same b at _ (switch_texts now (switches_meant es (suc i))) b₂ r₂ (texts-next now es i d (omega arith)) (put_next p room q)
+  pub put_one : (b₂ : List ℕ) (r₂ : ℕ) → Put b₁ r₁ (switch_text now (switch_words_meant (get_or (take n es) i d))) b₂ r₂ → Put b at (switch_texts now (switches_meant es (i + 1))) b₂ r₂
+  put_one b₂ r₂ q =
+      let same : get_or (take n es) i d ≡ get_or es i d = get_or-take n es i d l in
+      put_same b at _ (switch_texts now (switches_meant es (i + 1))) b₂ r₂ (rw add-one (texts-next now es i d (omega arith))) (put_next p room (rw same at q))
 
 ---- the room
 

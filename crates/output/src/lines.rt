@@ -8,7 +8,7 @@ ghost use Rattle.model.specs.Reading.{option_tid_meant, option_out_meant, join_m
 ghost use Rattle.script.specs.Report.{maybe, out_tid, out_reason, join_word, switch_text, switch_texts, joined_text, refused_text};
 
 use crate::values::{put_decimal, put_maybe, put_out_reason, put_out_tid, put_outcome};
-use model::{JoinOutcome, OptionOut, OptionTid, Switch, SwitchWords, Tick};
+use model::{JoinOutcome, Switch, SwitchOut, SwitchWords, Tick, Tid};
 use settings::Refusal;
 use switches::{SwitchList, switch_of};
 use text::put::put;
@@ -56,7 +56,7 @@ pub fn put_joined(out: &mut [u8], at: usize, line: u64, outcome: JoinOutcome) ->
 }
 
 // The last three fields of a switch: thread out, reason, thread in.
-fn put_threads(out: &mut [u8], at: usize, o: OptionOut, inn: OptionTid) -> usize
+fn put_threads(out: &mut [u8], at: usize, o: Option<SwitchOut>, inn: Option<Tid>) -> usize
     requires { at + length (commas (maybe (out_tid (option_out_meant o)) ∷ out_reason (option_out_meant o) ∷ maybe (option_tid_meant inn) ∷ [])) ≤ length out.old }
     ensures { Put out.old at (commas (maybe (out_tid (option_out_meant o)) ∷ out_reason (option_out_meant o) ∷ maybe (option_tid_meant inn) ∷ [])) out.new result }
 {
@@ -74,11 +74,10 @@ fn put_switch(out: &mut [u8], at: usize, tick: Tick, s: Switch) -> usize
 {
     let core = s.core.0 as u64;
     let o = s.out;
-    let inn = s.inn;
     let a = put(out, at, b"switch=");
     let b = put_pair(out, a, tick.0, core);
     let c = put(out, b, b",");
-    let d = put_threads(out, c, o, inn);
+    let d = put_threads(out, c, o, s.inn);
     put(out, d, b"\n")
 }
 
@@ -95,13 +94,9 @@ fn put_entries(out: &mut [u8], at: usize, tick: Tick, entries: [SwitchWords; 8],
     requires { (n ≤ 8) × (at + length (switch_texts tick.0 (switches_meant entries n)) ≤ length out.old) }
     ensures { Put out.old at (switch_texts tick.0 (switches_meant entries n)) out.new result }
 {
-    let es = entries;
     let mut end = at;
-    let mut i: usize = 0;
-    while i < n {
-        let e = es[i];
-        end = put_entry(out, end, tick, e);
-        i += 1;
+    for &w in &entries[..n] {
+        end = put_entry(out, end, tick, w);
     }
     end
 }
@@ -111,6 +106,5 @@ pub fn put_switches(out: &mut [u8], at: usize, tick: Tick, switches: SwitchList)
     requires { (switches.count ≤ 8) × (at + length (switch_texts tick.0 (switches_meant switches.entries switches.count)) ≤ length out.old) }
     ensures { Put out.old at (switch_texts tick.0 (switches_meant switches.entries switches.count)) out.new result }
 {
-    let entries = switches.entries;
-    put_entries(out, at, tick, entries, switches.count)
+    put_entries(out, at, tick, switches.entries, switches.count)
 }

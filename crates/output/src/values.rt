@@ -5,7 +5,7 @@ ghost use Rattle.text.specs.Buffers.{Put};
 ghost use Rattle.model.specs.Reading.{option_tid_meant, option_out_meant, reason_meant, join_meant};
 ghost use Rattle.script.specs.Report.{maybe, out_tid, out_reason, reason_word, join_word};
 
-use model::{JoinOutcome, LeaveReason, OptionOut, OptionTid};
+use model::{JoinOutcome, LeaveReason, SwitchOut, Tid};
 use text::put::put;
 
 // A number, where no more room is left than its digits take.
@@ -19,23 +19,23 @@ pub(crate) fn put_decimal(out: &mut [u8], at: usize, n: u64) -> usize
 }
 
 // "absent fields `-`"
-pub(crate) fn put_maybe(out: &mut [u8], at: usize, t: OptionTid) -> usize
+pub(crate) fn put_maybe(out: &mut [u8], at: usize, t: Option<Tid>) -> usize
     requires { at + length (maybe (option_tid_meant t)) ≤ length out.old }
     ensures { Put out.old at (maybe (option_tid_meant t)) out.new result }
 {
-    match t {
-        OptionTid::None => put(out, at, b"-"),
-        OptionTid::Some(tid) => put_decimal(out, at, tid.0 as u64),
-    }
+    let Some(tid) = t else {
+        return put(out, at, b"-");
+    };
+    put_decimal(out, at, tid.0 as u64)
 }
 
-pub(crate) fn put_out_tid(out: &mut [u8], at: usize, o: OptionOut) -> usize
+pub(crate) fn put_out_tid(out: &mut [u8], at: usize, o: Option<SwitchOut>) -> usize
     requires { at + length (maybe (out_tid (option_out_meant o))) ≤ length out.old }
     ensures { Put out.old at (maybe (out_tid (option_out_meant o))) out.new result }
 {
     match o {
-        OptionOut::None => put(out, at, b"-"),
-        OptionOut::Some(left) => put_decimal(out, at, left.tid.0 as u64),
+        None => put(out, at, b"-"),
+        Some(left) => put_decimal(out, at, left.tid.0 as u64),
     }
 }
 
@@ -53,16 +53,13 @@ fn put_reason(out: &mut [u8], at: usize, reason: LeaveReason) -> usize
     }
 }
 
-pub(crate) fn put_out_reason(out: &mut [u8], at: usize, o: OptionOut) -> usize
+pub(crate) fn put_out_reason(out: &mut [u8], at: usize, o: Option<SwitchOut>) -> usize
     requires { at + length (out_reason (option_out_meant o)) ≤ length out.old }
     ensures { Put out.old at (out_reason (option_out_meant o)) out.new result }
 {
     match o {
-        OptionOut::None => put(out, at, b"-"),
-        OptionOut::Some(left) => {
-            let reason = left.reason;
-            put_reason(out, at, reason)
-        }
+        None => put(out, at, b"-"),
+        Some(left) => put_reason(out, at, left.reason),
     }
 }
 

@@ -11,24 +11,21 @@ ghost use Rattle.state.specs.Asked.{Askable, Answers, nothing};
 ghost use Rattle.questions.specs.Questions.{core_states};
 ghost use Rattle.questions.specs.Reading.{option_ticks_meant};
 
-use crate::OptionTicks;
-use model::{CoreId, CoreState, OptionCore, OptionTid, Tid};
+use model::{CoreId, CoreState, CoreTicks, Tid};
 use state::{Sched, state_at, unpack};
 
 // What a core does; idle where there is none.
 pub fn core_state(s: Sched, core: CoreId) -> CoreState
     ensures { Answers s nothing (λ d. core_state_meant result ≡ core_state_of d core.0) }
 {
-    let states = s.states;
-    state_at(states, core.0 as usize)
+    state_at(s.states, core.0 as usize)
 }
 
 // What each core does, and idle behind the last of them (`core_count`).
 pub fn cores(s: Sched) -> [CoreState; 8]
     ensures { Answers s nothing (λ d. map core_state_meant result ≡ core_states d ++ replicate (8 - length d.cores) Idle) }
 {
-    let states = s.states;
-    unpack(states)
+    unpack(s.states)
 }
 
 pub fn core_count(s: Sched) -> usize
@@ -37,77 +34,60 @@ pub fn core_count(s: Sched) -> usize
     s.cores
 }
 
-fn running_in(state: CoreState) -> OptionTid
+#[tactic(auto, unfolding(model::specs::Questions::runner))]
+fn running_in(state: CoreState) -> Option<Tid>
     ensures { option_tid_meant result ≡ runner (core_state_meant state) }
 {
     match state {
-        CoreState::Idle => OptionTid::None,
-        CoreState::Switching { tid: _, left: _ } => OptionTid::None,
-        CoreState::Running { tid, slice: _ } => OptionTid::Some(tid),
-    }
-}
-
-// The Rust's `CoreState::tid`: the thread that holds a core in this state, running or switching in.
-pub fn holder_of(state: CoreState) -> OptionTid
-    ensures { option_tid_meant result ≡ holder (core_state_meant state) }
-{
-    match state {
-        CoreState::Idle => OptionTid::None,
-        CoreState::Switching { tid, left: _ } => OptionTid::Some(tid),
-        CoreState::Running { tid, slice: _ } => OptionTid::Some(tid),
+        CoreState::Idle | CoreState::Switching { .. } => None,
+        CoreState::Running { tid, .. } => Some(tid),
     }
 }
 
 // The thread that a core executes; a core that switches to one holds it but does not execute it yet.
-pub fn running_on(s: Sched, core: CoreId) -> OptionTid
+pub fn running_on(s: Sched, core: CoreId) -> Option<Tid>
     ensures { Answers s nothing (λ d. option_tid_meant result ≡ running_on d core.0) }
 {
     running_in(core_state(s, core))
 }
 
 // The thread on a core, running or switching in.
-pub fn thread_on(s: Sched, core: CoreId) -> OptionTid
+pub fn thread_on(s: Sched, core: CoreId) -> Option<Tid>
     ensures { Answers s nothing (λ d. option_tid_meant result ≡ thread_on d core.0) }
 {
-    holder_of(core_state(s, core))
+    core_state(s, core).tid()
 }
 
 // One core's counters.
-pub fn core_ticks(s: Sched, core: CoreId) -> OptionTicks
+pub fn core_ticks(s: Sched, core: CoreId) -> Option<CoreTicks>
     requires { Askable s nothing }
     ensures { Answers s nothing (λ d. option_ticks_meant result ≡ get_elem? d.accounts.ticks core.0) }
 {
     let i = core.0 as usize;
     if s.cores <= i {
-        return OptionTicks::None;
+        return None;
     }
-    let ticks = s.ticks[i];
-    OptionTicks::Some(ticks)
+    Some(s.ticks[i])
 }
 
+#[tactic(auto, unfolding(model::specs::Accounting::is_holder))]
 fn is_held_by(state: CoreState, tid: Tid) -> bool
     ensures { result ≡ is_holder tid.0 (holder (core_state_meant state)) }
 {
     match state {
         CoreState::Idle => false,
-        CoreState::Switching { tid: t, left: _ } => t.0 == tid.0,
-        CoreState::Running { tid: t, slice: _ } => t.0 == tid.0,
+        CoreState::Switching { tid: t, .. } | CoreState::Running { tid: t, .. } => t.0 == tid.0,
     }
 }
 
 // The core that a thread is on, running or switching in. A core that is not there is idle, so all eight are looked at.
-pub fn core_of(s: Sched, tid: Tid) -> OptionCore
+pub fn core_of(s: Sched, tid: Tid) -> Option<CoreId>
     ensures { Answers s nothing (λ d. option_core_meant result ≡ core_of d tid.0) }
 {
-    let states = s.states;
-    let a = unpack(states);
-    let mut i = 0;
-    while i < 8 {
-        let state = a[i];
-        if is_held_by(state, tid) {
-            return OptionCore::Some(CoreId(i as u32));
+    for (i, state) in unpack(s.states).iter().enumerate() {
+        if is_held_by(*state, tid) {
+            return Some(CoreId(i as u32));
         }
-        i += 1;
     }
-    OptionCore::None
+    None
 }

@@ -17,38 +17,17 @@ use model::{CoreTicks, SchedEvent, Segment, Tick, Tid};
 use settings::SchedConfig;
 use state::Sched;
 
-// Answers that may be absent: a core that does not exist, an entry behind the end.
-#[derive(Clone, Copy)]
-pub enum OptionTicks {
-    None,
-    Some(CoreTicks),
-}
-
-#[derive(Clone, Copy)]
-pub enum OptionEvent {
-    None,
-    Some(SchedEvent),
-}
-
-#[derive(Clone, Copy)]
-pub enum OptionSegment {
-    None,
-    Some(Segment),
-}
-
 pub fn config(s: Sched) -> SchedConfig
     ensures { Answers s nothing (λ d. settings_meant result ≡ settings_of d) }
 {
-    let config = s.config;
-    config
+    s.config
 }
 
 // Ticks elapsed.
 pub fn now(s: Sched) -> Tick
     ensures { Answers s nothing (λ d. result.0 ≡ d.now) }
 {
-    let now = s.now;
-    now
+    s.now
 }
 
 pub fn context_switches(s: Sched) -> u64

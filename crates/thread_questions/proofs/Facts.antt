@@ -1,4 +1,5 @@
 -- What the parts say of the definition's state, where the thread records are the ones that are read.
+use Rattle.std.specs.Prelude as Std
 use Prim.Native.Nat.{ℕ, zero, suc, ◌<◌, ◌≤◌}
 use mathlib.Core.Path.{◌≡◌, refl, sym, ap, subst, ◌∙◌}
 use mathlib.Core.Bool.{Bool, not}
@@ -20,7 +21,6 @@ use Rattle.state.specs.State.{meant, meant_at, Valid}
 use Rattle.state.specs.Asked.{Askable, Answers, the_threads}
 use Rattle.summary.specs.Reading.{Summed}
 use Rattle.summary.proofs.Totaling.{totals-room}
-use Rattle.thread_questions.specs.declared.OptionThread.{OptionThread}
 use Rattle.thread_questions.specs.Reading.{option_thread_meant}
 
 ---- an element of the first n, as it is read
@@ -81,11 +81,11 @@ module _ (s : Sched) (ts : List ThreadInfo) where
     there : Holds b → k < s.threads
     there h = ltb→lt k s.threads (rw b-is at h)
 
-    pub thread-found : Holds b → (i : ℕ) → i ≡ k → (x : ThreadInfo) → x ≡ get_or ts i blank → (r : OptionThread) → option_thread_meant r ≡ some (thread_meant x) → Answers s (the_threads ts) (λ d. option_thread_meant r ≡ thread_at d k)
+    pub thread-found : Holds b → (i : ℕ) → i ≡ k → (x : ThreadInfo) → x ≡ get_or ts i blank → (r : Std.Option ThreadInfo) → option_thread_meant r ≡ some (thread_meant x) → Answers s (the_threads ts) (λ d. option_thread_meant r ≡ thread_at d k)
     unfolding thread_at threads_in
     thread-found h i i-is x x-is r r-is m v e =
         r-is ∙ ap (λ (y : ThreadInfo). some (thread_meant y)) (x-is ∙ ap (λ (j : ℕ). get_or ts j blank) i-is) ∙ at_place thread_meant s.threads k ts blank (there h) (omega (arith, there h, in-use-within m v e)) ∙ ap (λ (rs : List ThreadRecord). get_elem? rs k) (records-are m e)
 
-    pub thread-missing : Holds (not b) → (r : OptionThread) → option_thread_meant r ≡ none → Answers s (the_threads ts) (λ d. option_thread_meant r ≡ thread_at d k)
+    pub thread-missing : Holds (not b) → (r : Std.Option ThreadInfo) → option_thread_meant r ≡ none → Answers s (the_threads ts) (λ d. option_thread_meant r ≡ thread_at d k)
     unfolding thread_at threads_in
     thread-missing h r r-is m v e = r-is ∙ past_the_end thread_meant s.threads k ts (nltb→le k s.threads (rw b-is at h)) ∙ ap (λ (rs : List ThreadRecord). get_elem? rs k) (records-are m e)

@@ -23,13 +23,6 @@ use state::Sched;
 use summary::{FigureBits, SchedSummary, Sums, bits_from, figures_from, sums_from};
 use threads::{record_at, totals};
 
-// A thread's record, if there is such a thread.
-#[derive(Clone, Copy)]
-pub enum OptionThread {
-    None,
-    Some(ThreadInfo),
-}
-
 // The records in use, in thread order: a part of the lent records.
 pub fn threads(s: Sched, threads: &[ThreadInfo]) -> &[ThreadInfo]
     requires { Askable s (the_threads threads.now) }
@@ -40,7 +33,7 @@ pub fn threads(s: Sched, threads: &[ThreadInfo]) -> &[ThreadInfo]
 }
 
 // The record of a thread.
-pub fn thread(s: Sched, threads: &[ThreadInfo], tid: Tid) -> OptionThread
+pub fn thread(s: Sched, threads: &[ThreadInfo], tid: Tid) -> Option<ThreadInfo>
     requires { Askable s (the_threads threads.now) }
     ensures { Answers s (the_threads threads.now) (λ d. option_thread_meant result ≡ thread_at d tid.0) }
 {

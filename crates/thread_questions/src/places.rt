@@ -4,7 +4,6 @@ ghost use Rattle.std.proofs.Math.Option.{none, some};
 ghost use Rattle.model.specs.Reading.{thread_meant};
 ghost use Rattle.thread_questions.specs.Reading.{option_thread_meant};
 
-use crate::OptionThread;
 use model::{ThreadInfo, Tid};
 use state::Sched;
 
@@ -29,14 +28,14 @@ pub fn record_index(tid: Tid) -> usize
     tid.0 as usize
 }
 
-pub fn found(t: ThreadInfo) -> OptionThread
+pub fn found(t: ThreadInfo) -> Option<ThreadInfo>
     ensures { option_thread_meant result ≡ some (thread_meant t) }
 {
-    OptionThread::Some(t)
+    Some(t)
 }
 
-pub fn missing() -> OptionThread
+pub fn missing() -> Option<ThreadInfo>
     ensures { option_thread_meant result ≡ none }
 {
-    OptionThread::None
+    None
 }

@@ -9,10 +9,10 @@ pub returns-then-s : goal.returns-then-s
 unfolding tick_refusal
 returns-then-s c = hit 11 _ _ c.if-s.true
 
-pub returns-then-now-ge-LIMIT : goal.returns-then-now-ge-LIMIT
+pub returns-then-s-ge-LIMIT : goal.returns-then-s-ge-LIMIT
 unfolding tick_refusal limit_now
-returns-then-now-ge-LIMIT c = pass 11 _ _ _ c.if-s.false (hit 18 _ _ (le-leb _ _ c.if-now-ge-LIMIT.true))
+returns-then-s-ge-LIMIT c = pass 11 _ _ _ c.if-s.false (hit 18 _ _ (le-leb _ _ c.if-s-ge-LIMIT.true))
 
 pub returns : goal.returns
 unfolding tick_refusal limit_now
-returns c = pass 11 _ _ _ c.if-s.false (pass 18 _ _ _ (lt-leb _ _ c.if-now-ge-LIMIT.false) refl)
+returns c = pass 11 _ _ _ c.if-s.false (pass 18 _ _ _ (lt-leb _ _ c.if-s-ge-LIMIT.false) refl)

@@ -1,15 +1,16 @@
+use Rattle.model.specs.declared.SwitchOut.{SwitchOut}
+use Rattle.model.specs.declared.Tid.{Tid}
+use Rattle.std.specs.Prelude as Std
 use Prim.Native.Nat.{ℕ}
 use mathlib.Core.List.{List, [], ◌∷◌}
 use Rattle.text.specs.Lines.{commas}
 use Rattle.output.proofs.Chains.{Room, room-first, room-last, room_next, put_next}
 use Rattle.script.specs.Report.{maybe, out_tid, out_reason}
 use Rattle.model.specs.Reading.{option_out_meant, option_tid_meant}
-use Rattle.model.specs.declared.OptionOut.{OptionOut}
-use Rattle.model.specs.declared.OptionTid.{OptionTid}
 use Rattle.output.proofs.lines.put_threads.Goals as goal
 
 -- what is put, in order
-abbrev texts : OptionOut → OptionTid → List (List ℕ)
+abbrev texts : Std.Option SwitchOut → Std.Option Tid → List (List ℕ)
 texts o inn = (maybe (out_tid (option_out_meant o))) ∷ (44 ∷ []) ∷ (out_reason (option_out_meant o)) ∷ (44 ∷ []) ∷ (maybe (option_tid_meant inn)) ∷ []
 
 pub put_out_tid-a-requires : goal.put_out_tid-a-requires

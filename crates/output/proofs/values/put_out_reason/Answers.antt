@@ -1,3 +1,4 @@
+use Rattle.std.specs.Prelude.{Some, None}
 use Rattle.script.specs.Report.{out_reason}
 use Rattle.output.proofs.values.put_out_reason.Goals as goal
 

@@ -1,3 +1,4 @@
+use Rattle.std.specs.Prelude.{Some, None}
 use Rattle.script.specs.Report.{maybe, out_tid}
 use Rattle.output.proofs.values.put_out_tid.Goals as goal
 

@@ -2,7 +2,7 @@
 use mathlib.Core.Path.{◌≡◌}
 use mathlib.Core.Bool.{Bool}
 use mathlib.Core.List.{List}
-use Prim.Native.Nat.{ℕ, ◌≤◌, ◌-◌}
+use Prim.Native.Nat.{ℕ, ◌≤◌}
 use Rattle.model.specs.declared.CoreState as Program
 use Rattle.model.specs.Calls.{idle_core}
 use Rattle.state.specs.State.{core_from}
@@ -13,7 +13,4 @@ abbrev pub Board : List Program.CoreState → (ex bl yi pr : List Bool) → ℕ 
 Board a ex bl yi pr n = (j : ℕ) → n ≤ j → core_from a ex bl yi pr j ≡ idle_core
 
 abbrev pub invariant-loop-i : goal.invariant-loop-i
-invariant-loop-i l = (l.i ≤ 8) × ((ex bl yi pr : List Bool) (n : ℕ) → Board l.a ex bl yi pr n → from l.tid.0 (core_from l.a ex bl yi pr) n 0 ≡ from l.tid.0 (core_from l.a ex bl yi pr) n l.i)
-
-abbrev pub decreases-loop-i : goal.decreases-loop-i
-decreases-loop-i l = 8 - l.i
+invariant-loop-i l = (ex bl yi pr : List Bool) (n : ℕ) → Board l.state-items ex bl yi pr n → from l.tid.0 (core_from l.state-items ex bl yi pr) n 0 ≡ from l.tid.0 (core_from l.state-items ex bl yi pr) n l.i

@@ -2,7 +2,6 @@ use mathlib.Core.Path.{ap, ◌∙◌}
 use Rattle.model.specs.declared.CoreState as Program
 use Rattle.model.specs.Reading.{core_state_meant}
 use Rattle.questions.proofs.CoreLaws.{core-state-is}
-use Rattle.state.proofs.state_at.Reads as state-at-reads
 use Rattle.questions.proofs.cores.core_state.Goals as goal
 
 pub returns : goal.returns

@@ -1,7 +1,5 @@
 use mathlib.Core.Path.{ap, ◌∙◌}
 use Rattle.model.specs.Questions.{runner, running_on}
-use Rattle.questions.proofs.cores.core_state.Reads as core-state-reads
-use Rattle.questions.proofs.cores.running_in.Reads as running-in-reads
 use Rattle.questions.proofs.cores.running_on.Goals as goal
 
 pub returns : goal.returns

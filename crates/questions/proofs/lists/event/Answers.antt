@@ -9,8 +9,8 @@ use Rattle.state.specs.State.{meant_at, log_words}
 use Rattle.questions.proofs.CoreLaws.{log-fits, log-ring, events-end}
 use Rattle.questions.proofs.lists.event.Goals as goal
 
-pub returns-then-pos-k : goal.returns-then-pos-k
-returns-then-pos-k c = λ m v r. events-end c.args.s m v _ c.if-pos-k.true
+pub returns-then-s-k : goal.returns-then-s-k
+returns-then-s-k c = λ m v r. events-end c.args.s m v _ c.if-s-k.true
 
 pub overflow_mul-words : goal.overflow_mul-words
 overflow_mul-words c =

@@ -1,5 +1,4 @@
 use Rattle.model.specs.Questions.{response_of}
-use Rattle.questions.proofs.times.ticks_from.Reads as ticks-from-reads
 use Rattle.questions.proofs.times.response.Goals as goal
 
 pub returns : goal.returns

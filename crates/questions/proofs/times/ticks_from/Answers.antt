@@ -1,7 +1,7 @@
+use Rattle.std.specs.Prelude.{None}
 use native.Mathlib.Omega.{arith}
 use mathlib.Core.Path.{ap}
 use mathlib.Core.Option.{some}
-use Prim.Native.Nat.{◌-◌}
 use Rattle.model.specs.Questions.{passed}
 use Rattle.questions.proofs.times.ticks_from.Goals as goal
 

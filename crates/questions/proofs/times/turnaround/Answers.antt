@@ -1,5 +1,4 @@
 use Rattle.model.specs.Questions.{turnaround_of}
-use Rattle.questions.proofs.times.ticks_from.Reads as ticks-from-reads
 use Rattle.questions.proofs.times.turnaround.Goals as goal
 
 pub returns : goal.returns
