@@ -1,4 +1,6 @@
 -- The call `close`, put together: what the exit leaves, the records charged, the call's end.
+use Rattle.std.specs.Prelude.{Ok, Err, Result}
+use Rattle.settings.specs.declared.Refusal.{Refusal}
 use Prim.Native.Nat.{ℕ, zero, suc, ◌+◌, ◌≤◌}
 use mathlib.Core.Path.{◌≡◌, refl, sym, ap, ◌∙◌, subst}
 use mathlib.Core.Bool.{true, false}
@@ -9,8 +11,6 @@ use borrow.Author.Tests.{le-leb}
 use lib.Dec.{leb}
 use lib.ListN.{length, take, drop, get_or, replicate}
 use Rattle.model.specs.declared.ThreadInfo.{ThreadInfo}
-use Rattle.model.specs.declared.CallAnswer.{CallAnswer}
-use Rattle.model.specs.declared.CallAnswer.TheVariants as CallCases
 use Rattle.model.specs.Types.{Core, State}
 use Rattle.model.specs.Phases.{Pass, and_then, with_state, sliced}
 use Rattle.model.specs.Accounting.{charge_threads, charge}
@@ -51,13 +51,13 @@ step-taken : (M : State) (i : ℕ) → refusal M (exit i) ≡ none → ((step M 
 unfolding step stepped accept
 step-taken M i h = (rw h, rw h)
 
-if-refused : (a : CallAnswer) (k n : ℕ) → call_answer_meant a ≡ refused k → if_taken a n ≡ 0
-if-refused CallCases.Taken k n e = absurd (let z : ◌≡◌ {A = ℕ} 0 1 = cc in omega arith)
-if-refused (CallCases.Refused r) k n e = refl
+if-refused : (a : Result Unit Refusal) (k n : ℕ) → call_answer_meant a ≡ refused k → if_taken a n ≡ 0
+if-refused (Ok tt) k n e = absurd (let z : ◌≡◌ {A = ℕ} 0 1 = cc in omega arith)
+if-refused (Err r) k n e = refl
 
-if_ok : (a : CallAnswer) (n : ℕ) → call_answer_meant a ≡ ok → if_taken a n ≡ n
-if_ok CallCases.Taken n e = refl
-if_ok (CallCases.Refused r) n e = absurd (let z : ◌≡◌ {A = ℕ} 0 1 = cc in omega arith)
+if_ok : (a : Result Unit Refusal) (n : ℕ) → call_answer_meant a ≡ ok → if_taken a n ≡ n
+if_ok (Ok tt) n e = refl
+if_ok (Err r) n e = absurd (let z : ◌≡◌ {A = ℕ} 0 1 = cc in omega arith)
 
 ---- the marks cleared
 
@@ -86,7 +86,7 @@ closing e =
       closed = true;
     }
 
-module _ (s : Sched) (ts : List ThreadInfo) (qs ps ls ws : List ℕ) (v : Valid s (memory ts qs ps ls ws)) (i : ℕ) (e : Answered) (ts₁ : List ThreadInfo) (qs₁ ls₁ : List ℕ)
+module _ (s : Sched) (ts : List ThreadInfo) (qs ps ls ws : List ℕ) (v : Valid s (memory ts qs ps ls ws)) (i : ℕ) (e : Answered Unit) (ts₁ : List ThreadInfo) (qs₁ ls₁ : List ℕ)
     (d : Done (exit (close_core s i).0) (call_answer_meant e.answer) s e.sched (memory ts qs ps ls ws) (memory ts₁ qs₁ ps ls₁ ws)) where
   abbrev M : State
   M = meant_at s ts qs ls ws
@@ -195,7 +195,7 @@ module _ (s : Sched) (ts : List ThreadInfo) (qs ps ls ws : List ℕ) (v : Valid 
   ---- the whole
 
   module _ (ts' : List ThreadInfo) (f : Front (charged_threads e) (charge_threads (cores_meant (states_of s₁.states)) 0 (threads_in ts₁ (charged_threads e))) ts₁ ts')
-      (s' : Sched) (a : CallAnswer) (ws' : List ℕ) (fin : CloseFinished s i e ws ws' s' a) where
+      (s' : Sched) (a : Result Unit Refusal) (ws' : List ℕ) (fin : CloseFinished s i e ws ws' s' a) where
     refused-done : (n : ℕ) → close_refusal s i ≡ some n → Done (close i) (call_answer_meant a) s s' (memory ts qs ps ls ws) (memory ts' qs₁ ps ls₁ ws')
     unfolding close_refusal
     refused-done n h =

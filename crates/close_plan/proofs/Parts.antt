@@ -1,4 +1,5 @@
 -- The parts of `close` by what the check answered.
+use Rattle.std.specs.Prelude.{Ok, Err, Result}
 use Prim.Native.Nat.{ℕ, ◌+◌, ◌<◌}
 use mathlib.Core.Path.{◌≡◌, refl, sym, ap, ◌∙◌, subst}
 use mathlib.Core.Bool.{Bool, true, false}
@@ -13,8 +14,6 @@ use Rattle.model.specs.declared.CoreState as Program
 use Rattle.model.specs.declared.CoreState.TheVariants as CoreStateCases
 use Rattle.model.specs.declared.CoreId.{CoreId}
 use Rattle.model.specs.declared.Tick.{Tick}
-use Rattle.model.specs.declared.CallAnswer.{CallAnswer}
-use Rattle.model.specs.declared.CallAnswer.TheVariants as CallCases
 use Rattle.model.specs.Types.{Move}
 use Rattle.model.specs.Phases
 use Rattle.model.specs.Calls.{check, limit_now}
@@ -55,10 +54,10 @@ close-ladder : (s : Sched) (i : ℕ) → close_refusal s i ≡ or_rest (core_ref
 unfolding close_refusal core_refusal
 close-ladder s i = four _ _ _ _ (limit s)
 
-pub close-stopped : (s : Sched) (i : ℕ) (b : CallAnswer) (x : Refusal) → b ≡ CallCases.Refused x → check_meant b ≡ core_refusal s i false none → some (refusal_number x) ≡ close_refusal s i
-close-stopped s i b x e h = sym (close-ladder s i ∙ ap (λ (o : Option ℕ). or_rest o (limit s)) (sym h ∙ ap check_meant e))
+pub close-stopped : (s : Sched) (i : ℕ) (b : Result Unit Refusal) (x : Refusal) → b ≡ Err x → check_meant b ≡ core_refusal s i false none → check_meant b ≡ close_refusal s i
+close-stopped s i b x e h = ap check_meant e ∙ sym (close-ladder s i ∙ ap (λ (o : Option ℕ). or_rest o (limit s)) (sym h ∙ ap check_meant e))
 
-pub close-rest : (s : Sched) (i : ℕ) (x : Option ℕ) (b : CallAnswer) → b ≡ CallCases.Taken → check_meant b ≡ core_refusal s i false none → x ≡ check 18 (leb limit_now s.now.0) none → x ≡ close_refusal s i
+pub close-rest : (s : Sched) (i : ℕ) (x : Option ℕ) (b : Result Unit Refusal) → b ≡ Ok tt → check_meant b ≡ core_refusal s i false none → x ≡ check 18 (leb limit_now s.now.0) none → x ≡ close_refusal s i
 close-rest s i x b e h k = k ∙ sym (close-ladder s i ∙ ap (λ (o : Option ℕ). or_rest o (limit s)) (taken_none b (core_refusal s i false none) e h))
 
 first-none : (o r : Option ℕ) → or_rest o r ≡ none → o ≡ none
@@ -78,40 +77,40 @@ close-early s i h = check-none 18 _ _ (rest-none (core_refusal s i false none) (
 
 ---- what the check answered
 
-module _ (s : Sched) (i : ℕ) (a : CallAnswer) (h : check_meant a ≡ close_refusal s i) where
-  pub answer-taken : a ≡ CallCases.Taken → close_refusal s i ≡ none
+module _ (s : Sched) (i : ℕ) (a : Result Unit Refusal) (h : check_meant a ≡ close_refusal s i) where
+  pub answer-taken : a ≡ Ok tt → close_refusal s i ≡ none
   answer-taken e = taken_none a _ e h
 
-  answer-refused : (x : Refusal) → a ≡ CallCases.Refused x → close_refusal s i ≡ some (refusal_number x)
+  answer-refused : (x : Refusal) → a ≡ Err x → close_refusal s i ≡ some (refusal_number x)
   answer-refused x e = sym h ∙ ap check_meant e
 
-  pub core-refused : (r : CoreId) (x : Refusal) → a ≡ CallCases.Refused x → r.0 ≡ 8 → r ≡ close_core s i
+  pub core-refused : (r : CoreId) (x : Refusal) → a ≡ Err x → r.0 ≡ 8 → r ≡ close_core s i
   unfolding close_core
   core-refused r x e k = let z : r.0 ≡ by_refusal (close_refusal s i) i 8 = k ∙ sym (refused-is (close_refusal s i) i 8 _ (answer-refused x e)) in λ j. record { 0 = z j }
 
-  pub core-taken : (r : CoreId) → a ≡ CallCases.Taken → r.0 ≡ i → r ≡ close_core s i
+  pub core-taken : (r : CoreId) → a ≡ Ok tt → r.0 ≡ i → r ≡ close_core s i
   unfolding close_core
   core-taken r e k = let z : r.0 ≡ by_refusal (close_refusal s i) i 8 = k ∙ sym (taken_is (close_refusal s i) i 8 (answer-taken e)) in λ j. record { 0 = z j }
 
   no_both : {B : Type 0} (n : ℕ) (o : Option ℕ) → o ≡ none → o ≡ some n → B
   no_both n o e f = absurd (let z : ◌≡◌ {A = ℕ} 0 1 = cc in omega arith)
 
-  pub finished-refused : (e : Answered) (ws : List ℕ) (x : Refusal) → a ≡ CallCases.Refused x → CloseFinished s i e ws ws s a
+  pub finished-refused : (e : Answered Unit) (ws : List ℕ) (x : Refusal) → a ≡ Err x → CloseFinished s i e ws ws s a
   finished-refused e ws x k =
       record { answer = h; long = refl; refused = λ n m. (refl, refl); taken = λ m. no_both (refusal_number x) (close_refusal s i) m (answer-refused x k) }
 
-  pub finished-taken : (e : Answered) (ws ws' : List ℕ) (s' : Sched) → a ≡ CallCases.Taken → ClosedOf e.sched ws ws' s' → CloseFinished s i e ws ws' s' a
+  pub finished-taken : (e : Answered Unit) (ws ws' : List ℕ) (s' : Sched) → a ≡ Ok tt → ClosedOf e.sched ws ws' s' → CloseFinished s i e ws ws' s' a
   finished-taken e ws ws' s' k c = record { answer = h; long = c.charged.lanes.size; refused = λ n m. no_both n (close_refusal s i) (answer-taken k) m; taken = λ m. c }
 
 ---- who is charged
 
-pub none-charged : (e : Answered) (x : Refusal) → e.answer ≡ CallCases.Refused x → 0 ≡ charged_threads e
+pub none-charged : (e : Answered Unit) (x : Refusal) → e.answer ≡ Err x → 0 ≡ charged_threads e
 unfolding charged_threads
-none-charged e x k = sym (ap (λ (a : CallAnswer). if_taken a e.sched.threads) k)
+none-charged e x k = sym (ap (λ (a : Result Unit Refusal). if_taken a e.sched.threads) k)
 
-pub all-charged : (e : Answered) → e.answer ≡ CallCases.Taken → e.sched.threads ≡ charged_threads e
+pub all-charged : (e : Answered Unit) → e.answer ≡ Ok tt → e.sched.threads ≡ charged_threads e
 unfolding charged_threads
-all-charged e k = sym (ap (λ (a : CallAnswer). if_taken a e.sched.threads) k)
+all-charged e k = sym (ap (λ (a : Result Unit Refusal). if_taken a e.sched.threads) k)
 
 ---- phase 1
 

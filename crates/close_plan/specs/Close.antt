@@ -1,10 +1,9 @@
 -- The parts of the call `close`. 01: "`close` does `exit` and phase 1, clears the calls' marks and decides nothing more."
-use Rattle.std.specs.Prelude.{ℕ, ◌+◌, ◌<◌, ◌≤◌, ◌≡◌, Bool, true, false, List, leb, length, get_or, replicate}
+use Rattle.settings.specs.declared.Refusal.{Refusal}
+use Rattle.std.specs.Prelude.{ℕ, ◌+◌, ◌<◌, ◌≤◌, ◌≡◌, Bool, true, false, List, leb, length, get_or, replicate, Ok, Err, Result}
 use Rattle.std.proofs.Math.Option.{Option, none, some}
 use Rattle.model.specs.declared.CoreId.{CoreId}
 use Rattle.model.specs.declared.Tick.{Tick}
-use Rattle.model.specs.declared.CallAnswer.{CallAnswer}
-use Rattle.model.specs.declared.CallAnswer.TheVariants as CallCases
 use Rattle.model.specs.declared.CoreState.TheVariants as CoreStateCases
 use Rattle.model.specs.Types.{Move}
 use Rattle.model.specs.Phases
@@ -30,11 +29,11 @@ unfoldable pub close_core : Sched → (core : ℕ) → CoreId
 close_core s i = record { 0 = by_refusal (close_refusal s i) i 8 }
 
 -- the threads that are charged, by how the exit ended
-abbrev pub if_taken : CallAnswer → ℕ → ℕ
-if_taken CallCases.Taken n = n
-if_taken (CallCases.Refused r) n = 0
+abbrev pub if_taken : Result Unit Refusal → ℕ → ℕ
+if_taken (Ok tt) n = n
+if_taken (Err r) n = 0
 
-unfoldable pub charged_threads : Answered → ℕ
+unfoldable pub charged_threads : Answered Unit → ℕ
 charged_threads e = if_taken e.answer e.sched.threads
 
 -- what phase 1 asks
@@ -45,22 +44,14 @@ pub record PhaseFits (s : Sched) (ws : List ℕ) : Type 0 where
 -- the state after it: charged, one tick later, closed, and the marks of `exit`, `join` and `yield` cleared
 abbrev pub closed_sched : Sched → Tick → Charged → Eight → Sched
 closed_sched s t c states =
-    record {
-      config = s.config;
-      capacities = s.capacities;
-      cores = s.cores;
-      threads = s.threads;
-      queued = s.queued;
+    record s {
       now = t;
-      context_switches = s.context_switches;
       closed = true;
       states = states;
       exits = replicate 8 false;
       blocks = replicate 8 false;
       yields = replicate 8 false;
-      progressed = s.progressed;
       ticks = c.ticks;
-      log = s.log;
       lanes = c.lanes;
     }
 
@@ -80,12 +71,12 @@ pub record ClosedOf (s : Sched) (ws ws' : List ℕ) (s' : Sched) : Type 0 where
   pub words : states ≡ packed (states_of states)
 
 -- what the call's end asks, with e what the exit left
-pub record CloseFits (s : Sched) (core : ℕ) (e : Answered) (ws : List ℕ) : Type 0 where
+pub record CloseFits (s : Sched) (core : ℕ) (e : Answered Unit) (ws : List ℕ) : Type 0 where
   pub cores : s.cores ≤ 8
   pub phase : close_refusal s core ≡ none → PhaseFits e.sched ws
 
 -- and what it leaves
-pub record CloseFinished (s : Sched) (core : ℕ) (e : Answered) (ws ws' : List ℕ) (s' : Sched) (a : CallAnswer) : Type 0 where
+pub record CloseFinished (s : Sched) (core : ℕ) (e : Answered Unit) (ws ws' : List ℕ) (s' : Sched) (a : Result Unit Refusal) : Type 0 where
   pub answer : check_meant a ≡ close_refusal s core
   pub long : length ws' ≡ length ws
   pub refused : (n : ℕ) → close_refusal s core ≡ some n → (s' ≡ s) × (ws' ≡ ws)

@@ -1,4 +1,6 @@
 -- The call `exit`, put together: the record changed, the waiters woken, the call's end.
+use Rattle.std.specs.Prelude.{Result}
+use Rattle.settings.specs.declared.Refusal.{Refusal}
 use Prim.Native.Nat.{ℕ, zero, suc, ◌+◌, ◌-◌, ◌*◌, ◌<◌, ◌≤◌, max}
 use mathlib.Core.Path.{◌≡◌, refl, sym, ap, ap₂, ◌∙◌, subst}
 use mathlib.Core.Bool.{Bool, true, false}
@@ -10,7 +12,6 @@ use lib.ListN.{length, take, drop, set, length-set, length-append, take-append-d
 use lib.Seq.{get_or-set_same, get_or-set_other, length-take-le, take_at, drop_at}
 use Rattle.model.specs.Invariants.{CoresOK, states_of as thread_states}
 use Rattle.model.specs.declared.ThreadInfo.{ThreadInfo}
-use Rattle.model.specs.declared.CallAnswer.{CallAnswer}
 use Rattle.model.specs.Types.{Core, ThreadRecord, Accounts, State, OnCore, Ready}
 use Rattle.model.specs.Phases.{update, holder}
 use Rattle.model.specs.Accounting.{finished, on_thread, set_state}
@@ -238,7 +239,7 @@ module _ (s : Sched) (ts : List ThreadInfo) (qs ps ls ws : List ℕ) (v : Valid 
             now = omega arith;
           }
 
-      module _ (long₂ : length ts₂ ≡ length ts) (s' : Sched) (a : CallAnswer) (ls' : List ℕ) (f : Finished s i len qs₂ ls ls' s' a) where
+      module _ (long₂ : length ts₂ ≡ length ts) (s' : Sched) (a : Result Unit Refusal) (ls' : List ℕ) (f : Finished s i len qs₂ ls ls' s' a) where
         refused-done : (n : ℕ) → exit_refusal s i ≡ some n → Done (exit i) (call_answer_meant a) s s' (memory ts qs ps ls ws) (memory ts₂ qs₂ ps ls' ws)
         unfolding exit_refusal threads_in waiters
         refused-done n h =

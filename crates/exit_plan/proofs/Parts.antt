@@ -1,4 +1,5 @@
 -- The parts of `exit` by what the check answered, and the log's ring in its memory.
+use Rattle.std.specs.Prelude.{Ok, Err, Result}
 use Prim.Native.Nat.{ℕ, ◌*◌, ◌-◌, ◌<◌, ◌≤◌}
 use mathlib.Core.Path.{◌≡◌, refl, sym, ap, ◌∙◌}
 use mathlib.Core.Bool.{false}
@@ -11,8 +12,6 @@ use lib.Seq.{length-take-le, take_at, drop_at}
 use Rattle.settings.specs.declared.Refusal.{Refusal}
 use Rattle.settings.specs.Reading.{refusal_number}
 use Rattle.model.specs.declared.Tid.{Tid}
-use Rattle.model.specs.declared.CallAnswer.{CallAnswer}
-use Rattle.model.specs.declared.CallAnswer.TheVariants as CallCases
 use Rattle.model.specs.Calls.{ok, refused}
 use Rattle.model.specs.Reading.{call_answer_meant}
 use Rattle.model.proofs.Refusals.{check-none}
@@ -36,12 +35,12 @@ taken_is r x y e = rw e
 pub refused-is : {A : Type 0} (r : Option ℕ) (x y : A) (n : ℕ) → r ≡ some n → by_refusal r x y ≡ y
 refused-is r x y n e = rw e
 
-module _ (s : Sched) (i : ℕ) (a : CallAnswer) (h : check_meant a ≡ core_refusal s i false none) where
-  pub check-taken : a ≡ CallCases.Taken → exit_refusal s i ≡ none
+module _ (s : Sched) (i : ℕ) (a : Result Unit Refusal) (h : check_meant a ≡ core_refusal s i false none) where
+  pub check-taken : a ≡ Ok tt → exit_refusal s i ≡ none
   unfolding exit_refusal
   check-taken e = taken_none a _ e h
 
-  pub check-refused : (x : Refusal) → a ≡ CallCases.Refused x → exit_refusal s i ≡ some (refusal_number x)
+  pub check-refused : (x : Refusal) → a ≡ Err x → exit_refusal s i ≡ some (refusal_number x)
   unfolding exit_refusal
   check-refused x e = sym h ∙ ap check_meant e
 
@@ -53,12 +52,12 @@ module _ (s : Sched) (i : ℕ) (a : CallAnswer) (h : check_meant a ≡ core_refu
   no_both n o e f = absurd (let z : ◌≡◌ {A = ℕ} 0 1 = cc in omega arith)
 
   -- the call's end, refused or taken
-  pub finished-refused : (len : ℕ) (qs ls : List ℕ) (x : Refusal) → a ≡ CallCases.Refused x → Finished s i len qs ls ls s a
+  pub finished-refused : (len : ℕ) (qs ls : List ℕ) (x : Refusal) → a ≡ Err x → Finished s i len qs ls ls s a
   finished-refused len qs ls x e =
       record { answer = check-is; long = refl; refused = λ n k. (refl, refl); taken = λ k. no_both (refusal_number x) (exit_refusal s i) k (check-refused x e) }
 
   pub finished-taken :
-      (len : ℕ) (qs ls ls' : List ℕ) (p : RingPos) → a ≡ CallCases.Taken
+      (len : ℕ) (qs ls ls' : List ℕ) (p : RingPos) → a ≡ Ok tt
       → WakesLogged (2 * s.capacities.events) s.now.0 (take (len - s.queued) (drop s.queued qs)) ls ls' s.log p → Finished s i len qs ls ls' (with_exit i len p s) a
   finished-taken len qs ls ls' p e w = record { answer = check-is; long = w.long; refused = λ n k. no_both n (exit_refusal s i) (check-taken e) k; taken = λ k. (refl, w) }
 
@@ -67,13 +66,13 @@ pub exit-core : (s : Sched) (i : ℕ) → exit_refusal s i ≡ none → i < s.co
 unfolding exit_refusal core_refusal
 exit-core s i h = leb-false s.cores i (check-none 4 _ _ h)
 
-pub answer-refused : (a : CallAnswer) (n : ℕ) → check_meant a ≡ some n → call_answer_meant a ≡ refused n
-answer-refused CallCases.Taken n e = absurd (let z : ◌≡◌ {A = ℕ} 0 1 = cc in omega arith)
-answer-refused (CallCases.Refused r) n e = let z : refusal_number r ≡ n = cc in ap refused z
+pub answer-refused : (a : Result Unit Refusal) (n : ℕ) → check_meant a ≡ some n → call_answer_meant a ≡ refused n
+answer-refused (Ok tt) n e = absurd (let z : ◌≡◌ {A = ℕ} 0 1 = cc in omega arith)
+answer-refused (Err r) n e = let z : refusal_number r ≡ n = cc in ap refused z
 
-pub answer-taken : (a : CallAnswer) → check_meant a ≡ none → call_answer_meant a ≡ ok
-answer-taken CallCases.Taken e = refl
-answer-taken (CallCases.Refused r) e = absurd (let z : ◌≡◌ {A = ℕ} 0 1 = cc in omega arith)
+pub answer-taken : (a : Result Unit Refusal) → check_meant a ≡ none → call_answer_meant a ≡ ok
+answer-taken (Ok tt) e = refl
+answer-taken (Err r) e = absurd (let z : ◌≡◌ {A = ℕ} 0 1 = cc in omega arith)
 
 ---- the ring was lent as the first words, and came back as b
 

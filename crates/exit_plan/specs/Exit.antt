@@ -1,8 +1,8 @@
 -- The parts of the call `exit`. 01: "`exit` sets finish to now + 1 and wakes its waiters in thread order to the back of the queue."
-use Rattle.std.specs.Prelude.{ℕ, ◌-◌, ◌*◌, ◌/◌, ◌<◌, ◌≤◌, ◌≡◌, Bool, true, false, List, length, take, drop, get_or, set}
+use Rattle.settings.specs.declared.Refusal.{Refusal}
+use Rattle.std.specs.Prelude.{ℕ, ◌-◌, ◌*◌, ◌<◌, ◌≤◌, ◌≡◌, true, false, List, length, take, drop, get_or, set, Result}
 use Rattle.std.proofs.Math.Option.{Option, none, some}
 use Rattle.model.specs.declared.Tid.{Tid}
-use Rattle.model.specs.declared.CallAnswer.{CallAnswer}
 use Rattle.model.specs.declared.CoreState.TheVariants as CoreStateCases
 use Rattle.model.specs.Phases.{holder}
 use Rattle.model.specs.Calls.{tid_of}
@@ -48,25 +48,7 @@ pub record WakesLogged (words now : ℕ) (tids : List ℕ) (ls ls' : List ℕ) (
 
 -- the state with the core's exit mark, the queue's new length and the log's new position
 abbrev pub with_exit : (core queued : ℕ) → RingPos → Sched → Sched
-with_exit i len p s =
-    record {
-      config = s.config;
-      capacities = s.capacities;
-      cores = s.cores;
-      threads = s.threads;
-      queued = len;
-      now = s.now;
-      context_switches = s.context_switches;
-      closed = s.closed;
-      states = s.states;
-      exits = set s.exits i true;
-      blocks = s.blocks;
-      yields = s.yields;
-      progressed = s.progressed;
-      ticks = s.ticks;
-      log = p;
-      lanes = s.lanes;
-    }
+with_exit i len p s = record s { queued = len; exits = set s.exits i true; log = p }
 
 -- what the call's end asks: the queue is `len` long now
 pub record FinishFit (s : Sched) (len : ℕ) (qs ls : List ℕ) : Type 0 where
@@ -79,7 +61,7 @@ pub record FinishFit (s : Sched) (len : ℕ) (qs ls : List ℕ) : Type 0 where
   pub now : s.now.0 < 4294967296
 
 -- and what it leaves
-pub record Finished (s : Sched) (core len : ℕ) (qs ls ls' : List ℕ) (s' : Sched) (a : CallAnswer) : Type 0 where
+pub record Finished (s : Sched) (core len : ℕ) (qs ls ls' : List ℕ) (s' : Sched) (a : Result Unit Refusal) : Type 0 where
   pub answer : check_meant a ≡ exit_refusal s core
   pub long : length ls' ≡ length ls
   pub refused : (n : ℕ) → exit_refusal s core ≡ some n → (s' ≡ s) × (ls' ≡ ls)

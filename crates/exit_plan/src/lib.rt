@@ -4,37 +4,23 @@
 #![tactic(auto)]
 
 ghost use Rattle.std.specs.Prelude.{◌≡◌, ◌-◌, ◌<◌, ◌≤◌, length, take, drop};
-ghost use Rattle.model.specs.Phases.{holder};
-ghost use Rattle.model.specs.Calls.{tid_of};
-ghost use Rattle.model.specs.Reading.{core_state_meant};
 ghost use Rattle.rings.specs.Ring.{RingOK};
 ghost use Rattle.exit_plan.specs.Exit.{exit_tid, exit_place, exit_change, exit_threads, WakesLogged, FinishFit, Finished};
 
 use accounts::log::log_wakes;
 use checks::check_core;
-use model::{CallAnswer, CoreId, CoreState, Tick, Tid};
+use model::{CoreId, Tick, Tid};
 use records::change::Change;
 use rings::RingPos;
 use sched_marks::Answered;
 use state::{Sched, state_at};
 
-fn holder_of(state: CoreState) -> Tid
-    ensures { result.0 ≡ tid_of (holder (core_state_meant state)) }
-{
-    match state {
-        CoreState::Idle => Tid(0),
-        CoreState::Switching { tid, left: _ } => tid,
-        CoreState::Running { tid, slice: _ } => tid,
-    }
-}
-
-// The thread of the core.
+// The thread of the core; 0 where there is none.
 pub fn exit_tid(s: Sched, core: CoreId) -> Tid
     ensures { result ≡ exit_tid s core.0 }
 {
-    let i = core.0 as usize;
-    let states = s.states;
-    holder_of(state_at(states, i))
+    let state = state_at(s.states, core.0 as usize);
+    state.tid().unwrap_or(Tid(0))
 }
 
 // The record that changes.
@@ -42,13 +28,9 @@ pub fn exit_place(s: Sched, core: CoreId) -> usize
     requires { s.cores ≤ 8 }
     ensures { result ≡ exit_place s core.0 }
 {
-    let answer = check_core(s, core, false);
-    match answer {
-        CallAnswer::Refused(_) => 0,
-        CallAnswer::Taken => {
-            let tid = exit_tid(s, core);
-            tid.0 as usize
-        }
+    match check_core(s, core, false) {
+        Err(_) => 0,
+        Ok(()) => exit_tid(s, core).0 as usize,
     }
 }
 
@@ -57,13 +39,9 @@ pub fn exit_change(s: Sched, core: CoreId) -> Change
     requires { s.cores ≤ 8 }
     ensures { result ≡ exit_change s core.0 }
 {
-    let answer = check_core(s, core, false);
-    match answer {
-        CallAnswer::Refused(_) => Change::Keep,
-        CallAnswer::Taken => {
-            let now = s.now;
-            Change::Exit { now: now }
-        }
+    match check_core(s, core, false) {
+        Err(_) => Change::Keep,
+        Ok(()) => Change::Exit { now: s.now },
     }
 }
 
@@ -72,17 +50,10 @@ pub fn exit_threads(s: Sched, core: CoreId) -> usize
     requires { s.cores ≤ 8 }
     ensures { result ≡ exit_threads s core.0 }
 {
-    let answer = check_core(s, core, false);
-    match answer {
-        CallAnswer::Refused(_) => 0,
-        CallAnswer::Taken => s.threads,
+    match check_core(s, core, false) {
+        Err(_) => 0,
+        Ok(()) => s.threads,
     }
-}
-
-pub fn queued_of(s: Sched) -> usize
-    ensures { result ≡ s.queued }
-{
-    s.queued
 }
 
 // The threads queue[from..to] were woken: the ring of events is in the first `words` words of the log's memory.
@@ -102,22 +73,26 @@ fn log_woken(
 }
 
 // The call's end, where the waiters stand in the queue up to `len`.
-pub fn exit_finished(s: Sched, core: CoreId, len: usize, queue: &[u32], log: &mut [u64]) -> Answered
+pub fn exit_finished(
+    s: Sched,
+    core: CoreId,
+    len: usize,
+    queue: &[u32],
+    log: &mut [u64],
+) -> Answered<()>
     requires { FinishFit s len queue.now log.old }
     ensures { Finished s core.0 len queue.now log.old log.new result.sched result.answer }
 {
     let answer = check_core(s, core, false);
     match answer {
-        CallAnswer::Refused(_) => Answered { sched: s, answer },
-        CallAnswer::Taken => {
+        Err(_) => Answered { sched: s, answer },
+        Ok(()) => {
             let i = core.0 as usize;
-            let capacities = s.capacities;
-            let words = 2 * capacities.events;
-            let pos = log_woken(log, words, s.log, queue, s.queued, len, s.now);
+            let words = 2 * s.capacities.events;
             let mut next = s;
             next.exits[i] = true;
             next.queued = len;
-            next.log = pos;
+            next.log = log_woken(log, words, s.log, queue, s.queued, len, s.now);
             Answered {
                 sched: next,
                 answer,

@@ -1,4 +1,6 @@
 -- A forced switch, from what its parts leave to its promise.
+use Rattle.std.specs.Prelude.{Ok, Result}
+use Rattle.settings.specs.declared.Refusal.{Refusal}
 use Prim.Native.Nat.{ℕ, zero, suc, ◌+◌, ◌*◌, ◌<◌, ◌≤◌, ◌^◌, max}
 use mathlib.Core.Path.{◌≡◌, refl, sym, ap, ◌∙◌, subst}
 use mathlib.Core.Bool.{Bool, true, false}
@@ -10,8 +12,6 @@ use lib.Dec.{leb}
 use lib.ListN.{length, take, get_or}
 use lib.Seq.{length-take-le}
 use Rattle.model.specs.Invariants.{All, ThreadIn}
-use Rattle.model.specs.declared.CallAnswer.{CallAnswer}
-use Rattle.model.specs.declared.CallAnswer.TheVariants as CallCases
 use Rattle.model.specs.declared.ThreadInfo.{ThreadInfo}
 use Rattle.model.specs.Types.{CoreState, Core, Move, State}
 use Rattle.model.specs.Phases.{update, without, dispatch_moves}
@@ -228,10 +228,10 @@ module _ (s : Sched) (ts : List ThreadInfo) (qs ps ls ws : List ℕ) (v : Valid 
                 closed = s.closed;
               }
 
-          pub force-done : (a : CallAnswer) → a ≡ CallCases.Taken → Done (force i nm) (answer_with a w.switches) s s' (memory ts qs ps ls ws) (memory ts' qs' ps ls' ws')
+          pub force-done : (a : Result Unit Refusal) → a ≡ Ok tt → Done (force i nm) (answer_with a w.switches) s s' (memory ts qs ps ls ws) (memory ts' qs' ps ls' ws')
           unfolding accept meant_at threads_in
           force-done a e =
-              let is : answer_with a w.switches ≡ answer_with CallCases.Taken w.switches = ap (λ (b : CallAnswer). answer_with b w.switches) e in
+              let is : answer_with a w.switches ≡ answer_with (Ok tt) w.switches = ap (λ (b : Result Unit Refusal). answer_with b w.switches) e in
               let m : max s.queued p.queued ≡ s.queued = omega (arith, P.queue.fits) in
               let l : i < s.cores = leb-false s.cores i there-is in
               done-taken (force i nm) s ts qs ps ls ws v _ s' ts' qs' ps ls' ws' (force-refusal ∙ h) state-same
@@ -252,5 +252,5 @@ module _ (s : Sched) (ts : List ThreadInfo) (qs ps ls ws : List ℕ) (v : Valid 
               P.words v.ticks priorities-kept
               (record { threads = moved_front.rest; queue = rw m P.queue.behind; prios = refl; log = R.after; lanes = behind_more 80 (s.cores * (2 * s.capacities.segments)) ws ws' P.behind; ticks = λ j k. refl; places = λ j k. refl })
 
-        pub force-pending : (a : CallAnswer) → a ≡ CallCases.Taken → ForcePending i nm a w.switches s s' p.moves ts qs qs' ps ls ls' ws ws'
+        pub force-pending : (a : Result Unit Refusal) → a ≡ Ok tt → ForcePending i nm a w.switches s s' p.moves ts qs qs' ps ls ls' ws ws'
         force-pending a e = record { fits = force-fits; done = λ ts' g. record { done = force-done ts' g a e; list = list-taken _ _ R.list a e } }

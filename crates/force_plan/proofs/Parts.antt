@@ -1,7 +1,8 @@
 -- What each part's callees leave is what the part says.
+use Rattle.std.specs.Prelude.{Ok, Err, Result}
 use Prim.Native.Nat.{ℕ, ◌+◌, ◌<◌, ◌≤◌, ◌^◌}
 use mathlib.Core.Path.{◌≡◌, refl, sym, ap, ◌∙◌, subst}
-use mathlib.Core.Bool.{Bool, false}
+use mathlib.Core.Bool.{false}
 use mathlib.Core.Option.{Option}
 use mathlib.Core.List.{List, [], ◌++◌}
 use native.Mathlib.Omega.{arith}
@@ -11,10 +12,8 @@ use Rattle.settings.specs.declared.Refusal.{Refusal}
 use Rattle.settings.specs.Reading.{policy_meant, refusal_number}
 use Rattle.model.specs.declared.CoreState as Program
 use Rattle.model.specs.declared.CoreState.TheVariants as CoreStateCases
-use Rattle.model.specs.declared.CallAnswer.{CallAnswer}
-use Rattle.model.specs.declared.CallAnswer.TheVariants as CallCases
 use Rattle.model.specs.declared.ThreadInfo.{ThreadInfo}
-use Rattle.model.specs.Types.{State}
+use Rattle.model.specs.Types.{Core, State}
 use Rattle.model.specs.Phases.{Rules, update, without, dispatch_moves}
 use Rattle.model.specs.Calls.{force, rules, switched, is_switching, out_of, back_of, forced_core}
 use Rattle.model.specs.Reading.{core_state_meant}
@@ -24,58 +23,64 @@ use Rattle.switches.specs.Entries.{answer_with, ListFor}
 use Rattle.switches.proofs.Words.{list-refused}
 use Rattle.queue.specs.Words.{moves_in, NoLonger, Appended}
 use Rattle.queue.specs.Ready.{Picked}
+use Rattle.turns.specs.declared.Marks.{Marks}
+use Rattle.phases.specs.Cores.{board}
 use Rattle.decide.specs.Forced.{asked}
+use Rattle.state.specs.declared.Eight.{Eight}
 use Rattle.state.specs.declared.Sched.{Sched}
 use Rattle.state.specs.Memory.{memory}
-use Rattle.state.specs.State.{firsts, core_from, packed, states_of, meant_at, Valid}
+use Rattle.state.specs.State.{firsts, packed, states_of, meant_at, Valid}
 use Rattle.state.proofs.Doing.{done_refused}
 use Rattle.checks.specs.Check.{check_meant}
 use Rattle.checks.proofs.Answers.{taken_none}
 use Rattle.tick_plan.specs.declared.Planned.{Planned}
 use Rattle.tick_plan.specs.declared.Written.{Written}
-use Rattle.tick_plan.specs.Plan.{WriteFits, WrittenOf}
+use Rattle.tick_plan.specs.Plan.{marks_of, WriteFits, WrittenOf}
 use Rattle.tick_plan.specs.DoneWith.{DoneWith}
 use Rattle.tick_plan.proofs.Parts.{moves_front}
 use Rattle.tick_plan.proofs.Ticking.{rules-same}
-use Rattle.force_plan.specs.Plan.{ForcePending, AskedAt, Forceable, ForceFits, ForcedOf, force_refusal, forced_sched}
+use Rattle.force_plan.specs.Plan.{cores_of, ForcePending, AskedAt, Forceable, ForceFits, ForcedOf, force_refusal, forced_sched}
 use Rattle.force_plan.proofs.Forcing as F
 
 pub may-take : (s : Sched) (i at : ℕ) (qs ws : List ℕ) (cs : List Program.CoreState) → cs ≡ states_of s.states → ForceFits s i at qs ws → is_switching (core_state_meant (get_or cs i CoreStateCases.Idle)) ≡ false
 may-take s i at qs ws cs e f = ap (λ (x : List Program.CoreState). is_switching (core_state_meant (get_or x i CoreStateCases.Idle))) e ∙ f.settled
 
--- what `force_on` leaves, and the struct that is made of it
-module _ (s : Sched) (i at : ℕ) (qs qs' ws b : List ℕ) (cs cs' : List Program.CoreState) (ex bl yi pr : List Bool) (queued moves : ℕ) where
-  pub forced : (p : Planned) → cs ≡ states_of s.states → states_of p.states ≡ cs' → (p.exits ≡ ex) × (p.blocks ≡ bl) × (p.yields ≡ yi) × (p.progressed ≡ pr) × (p.queued ≡ queued) × (p.moves ≡ moves)
-      → (length p.exits ≡ 8) × (length p.blocks ≡ 8) × (length p.yields ≡ 8) × (length p.progressed ≡ 8) → ForceFits s i at qs ws → length b ≡ length (take 80 ws) → length qs' ≡ length qs
-      → ((n : ℕ) → i < n → firsts (core_from cs' ex bl yi pr) n ≡ update i (forced_core s.config.switch_cost (get_or (take s.queued qs) at 0)) (firsts (core_from cs s.exits s.blocks s.yields s.progressed) n))
-      → ((j : ℕ) → (j ≡ i → ⊥) → core_from cs' ex bl yi pr j ≡ core_from cs s.exits s.blocks s.yields s.progressed j)
+-- what `force_core` leaves in the front of the lanes
+module _ (s : Sched) (i at : ℕ) (qs qs' ws a b : List ℕ) (cs cs' : List Program.CoreState) (e₁ : Eight) (mo mk : Marks) (queued moves : ℕ) where
+  pub forced : (p : Planned) (qs₂ b₂ z : List ℕ) → qs₂ ≡ qs' → b₂ ≡ b → z ≡ drop 80 ws → a ≡ take 80 ws → cs ≡ states_of s.states → mo ≡ marks_of s → states_of e₁ ≡ cs' → (p.states ≡ e₁) × (p.marks ≡ mk) × (p.queued ≡ queued) × (p.moves ≡ moves)
+      → (length p.marks.exits ≡ 8) × (length p.marks.blocks ≡ 8) × (length p.marks.yields ≡ 8) × (length p.marks.progressed ≡ 8) → ForceFits s i at qs ws → length b ≡ length a → length qs' ≡ length qs
+      → ((n : ℕ) → i < n → firsts (board cs' mk) n ≡ update i (forced_core s.config.switch_cost (get_or (take s.queued qs) at 0)) (firsts (board cs mo) n))
+      → ((j : ℕ) → (j ≡ i → ⊥) → board cs' mk j ≡ board cs mo j)
       → ((who : Option ℕ) → Picked who (take s.queued qs) at → take queued qs' ≡ without (get_or (take s.queued qs) at 0) (take s.queued qs ++ back_of (core_state_meant (get_or cs i CoreStateCases.Idle))))
       → moves_in b moves ≡ out_of i (core_state_meant (get_or cs i CoreStateCases.Idle)) ++ dispatch_moves s.config.switch_cost (get_or (take s.queued qs) at 0) i
-      → NoLonger s.queued queued qs qs' → Appended 3 0 moves (take 80 ws) b → p.states ≡ packed (states_of p.states) → ForcedOf s i at qs qs' ws (b ++ drop 80 ws) p
-  forced p e e' m m8 f lb lq made kept left moved q a wo =
-      let k : length b ≡ 80 = lb ∙ length-take-le 80 ws f.words in
-      let few : moves ≤ 3 = omega (arith, a.fits) in
-      record {
+      → NoLonger s.queued queued qs qs' → Appended 3 0 moves a b → e₁ ≡ packed (states_of e₁) → ForcedOf s i at qs qs₂ ws (b₂ ++ z) p
+  forced p qs₂ b₂ z eq eb ez ea e em e' m m8 f lb lq made kept left moved q app wo =
+      let lt : length b ≡ length (take 80 ws) = lb ∙ ap length ea in
+      let k : length b ≡ 80 = lt ∙ length-take-le 80 ws f.words in
+      let few : moves ≤ 3 = omega (arith, app.fits) in
+      let board-same : board cs mo ≡ cores_of s = ap (λ (x : List Program.CoreState). board x mo) e ∙ ap (board (states_of s.states)) em in
+      rw (eq, eb, ez)
+      (record {
         cores =
-            rw (e', m.0, m.1, m.2, m.3)
-            (made s.cores f.there ∙ ap (λ (c : List Program.CoreState). update i (forced_core s.config.switch_cost (get_or (take s.queued qs) at 0)) (firsts (core_from c s.exits s.blocks s.yields s.progressed) s.cores)) e);
-        others = λ j d. rw (e', m.0, m.1, m.2, m.3) (kept j d ∙ ap (λ (c : List Program.CoreState). core_from c s.exits s.blocks s.yields s.progressed j) e);
-        left = rw m.4 (left f.pick.0 f.pick.1 ∙ ap (λ (c : List Program.CoreState). without (get_or (take s.queued qs) at 0) (take s.queued qs ++ back_of (core_state_meant (get_or c i CoreStateCases.Idle)))) e);
+            rw (m.0, m.1, e')
+            (made s.cores f.there ∙ ap (λ (g : ℕ → Core). update i (forced_core s.config.switch_cost (get_or (take s.queued qs) at 0)) (firsts g s.cores)) board-same);
+        others = λ j d. rw (m.0, m.1, e') (kept j d ∙ ap (λ (g : ℕ → Core). g j) board-same);
+        left = rw m.2 (left f.pick.0 f.pick.1 ∙ ap (λ (c : List Program.CoreState). without (get_or (take s.queued qs) at 0) (take s.queued qs ++ back_of (core_state_meant (get_or c i CoreStateCases.Idle)))) e);
         moves =
-            rw m.5
+            rw m.3
             (sym (moves_front b (drop 80 ws) moves (omega (arith, few, k))) ∙ moved
             ∙ ap (λ (c : List Program.CoreState). out_of i (core_state_meant (get_or c i CoreStateCases.Idle)) ++ dispatch_moves s.config.switch_cost (get_or (take s.queued qs) at 0) i) e);
-        queue = rw m.4 q;
-        few = rw m.5 few;
+        queue = rw m.2 q;
+        few = rw m.3 few;
         behind = drop_at b (drop 80 ws) 80 k;
         long_queue = lq;
-        long_lanes = length_front ws b 80 lb;
+        long_lanes = length_front ws b 80 lt;
         exits = m8.0;
         blocks = m8.1;
         yields = m8.2;
         progressed = m8.3;
-        words = wo;
-      }
+        words = rw m.0 wo;
+      })
 
 -- the place, by the priorities that the records hold
 module _ (s : Sched) (ts : List ThreadInfo) (qs ps ls ws : List ℕ) (nm : Option ℕ) (at : ℕ) where
@@ -89,7 +94,7 @@ module _ (s : Sched) (ts : List ThreadInfo) (qs ps ls ws : List ℕ) (nm : Optio
 
   ---- refused: nothing is decided, and there are no moves
 
-  pub pending-refused : (i : ℕ) → Valid s (memory ts qs ps ls ws) → AskedAt s nm qs ps at → (a : CallAnswer) (x : Refusal) (l : SwitchList) (zs : List ℕ) → ListFor (switched (switch_list [] (moves_in zs 0))) l → a ≡ CallCases.Refused x → check_meant a ≡ force_refusal s i nm at
+  pub pending-refused : (i : ℕ) → Valid s (memory ts qs ps ls ws) → AskedAt s nm qs ps at → (a : Result Unit Refusal) (x : Refusal) (l : SwitchList) (zs : List ℕ) → ListFor (switched (switch_list [] (moves_in zs 0))) l → a ≡ Err x → check_meant a ≡ force_refusal s i nm at
       → ForcePending i nm a l s s 0 ts qs qs ps ls ls ws ws
   pending-refused i v p a x l zs none-listed e h =
       record {
@@ -97,7 +102,7 @@ module _ (s : Sched) (ts : List ThreadInfo) (qs ps ls ws : List ℕ) (nm : Optio
         done = λ ts' g.
             let same : ts' ≡ ts = (g 0 (λ k l. absurd (omega arith))).rest in
             subst (λ (ys : List ThreadInfo). DoneWith (force i nm) (answer_with a l) l s s (memory ts qs ps ls ws) (memory ys qs ps ls ws)) (sym same)
-            (subst (λ (b : CallAnswer). DoneWith (force i nm) (answer_with b l) l s s (memory ts qs ps ls ws) (memory ts qs ps ls ws)) (sym e)
+            (subst (λ (b : Result Unit Refusal). DoneWith (force i nm) (answer_with b l) l s s (memory ts qs ps ls ws) (memory ts qs ps ls ws)) (sym e)
             (record {
               done = done_refused (force i nm) s ts qs ps ls ws v (refusal_number x) (F.force-refusal s ts qs ps ls ws v i nm at (place-meant v p) ∙ sym h ∙ ap check_meant e);
               list = list-refused zs l none-listed (refusal_number x);
@@ -106,7 +111,7 @@ module _ (s : Sched) (ts : List ThreadInfo) (qs ps ls ws : List ℕ) (nm : Optio
 
   ---- taken
 
-  pub forceable : (i : ℕ) → Valid s (memory ts qs ps ls ws) → AskedAt s nm qs ps at → (a : CallAnswer) → a ≡ CallCases.Taken → check_meant a ≡ force_refusal s i nm at → Forceable s i nm at ts qs ps ls ws
+  pub forceable : (i : ℕ) → Valid s (memory ts qs ps ls ws) → AskedAt s nm qs ps at → (a : Result Unit Refusal) → a ≡ Ok tt → check_meant a ≡ force_refusal s i nm at → Forceable s i nm at ts qs ps ls ws
   forceable i v p a e h = record { valid = v; place = p; unrefused = taken_none a (force_refusal s i nm at) e h }
 
   module _ (i : ℕ) (f : Forceable s i nm at ts qs ps ls ws) where
@@ -123,7 +128,7 @@ module _ (s : Sched) (ts : List ThreadInfo) (qs ps ls ws : List ℕ) (nm : Optio
     switches-fit = F.switches-fit s ts qs ps ls ws f.valid i nm at pick f.unrefused
 
     pub pending-at : (p : Planned) (w : Written) (s' : Sched) (now : ℕ) (qs' ls' ws' : List ℕ) → s' ≡ forced_sched s p w → now ≡ s.now.0 → ForcedOf s i at qs qs' ws ws' p → WrittenOf s now (moves_in ws' p.moves) ls ls' w
-        → ForcePending i nm CallCases.Taken w.switches s s' p.moves ts qs qs' ps ls ls' ws ws'
+        → ForcePending i nm (Ok tt) w.switches s s' p.moves ts qs qs' ps ls ls' ws ws'
     pending-at p w s' now qs' ls' ws' e en P R =
-        subst (λ (x : Sched). ForcePending i nm CallCases.Taken w.switches s x p.moves ts qs qs' ps ls ls' ws ws') (sym e)
-        (F.force-pending s ts qs ps ls ws f.valid i nm at pick f.unrefused p w qs' ls' ws' P (subst (λ (n : ℕ). WrittenOf s n (moves_in ws' p.moves) ls ls' w) en R) CallCases.Taken refl)
+        subst (λ (x : Sched). ForcePending i nm (Ok tt) w.switches s x p.moves ts qs qs' ps ls ls' ws ws') (sym e)
+        (F.force-pending s ts qs ps ls ws f.valid i nm at pick f.unrefused p w qs' ls' ws' P (subst (λ (n : ℕ). WrittenOf s n (moves_in ws' p.moves) ls ls' w) en R) (Ok tt) refl)

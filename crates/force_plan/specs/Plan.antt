@@ -1,16 +1,17 @@
 -- What a forced switch leaves beside the thread records, and what is still to be done to them.
-use Rattle.std.specs.Prelude.{ℕ, ◌+◌, ◌<◌, ◌≤◌, ◌≡◌, false, List, ◌++◌, leb, length, take, drop, get_or}
+use Rattle.settings.specs.declared.Refusal.{Refusal}
+use Rattle.std.specs.Prelude.{ℕ, ◌+◌, ◌<◌, ◌≤◌, ◌≡◌, false, List, ◌++◌, leb, length, take, drop, get_or, Result}
 use Rattle.std.proofs.Math.Option.{Option, none}
 use Rattle.settings.specs.Reading.{policy_meant}
 use Rattle.model.specs.declared.CoreState.TheVariants as CoreStateCases
 use Rattle.model.specs.declared.ThreadInfo.{ThreadInfo}
 use Rattle.model.specs.Types.{CoreState, Core}
 use Rattle.model.specs.Phases.{update, without, dispatch_moves}
-use Rattle.model.specs.declared.CallAnswer.{CallAnswer}
 use Rattle.model.specs.Calls.{force, check, any_leaving, is_switching, out_of, back_of, forced_core, limit_switches}
 use Rattle.model.specs.Reading.{core_state_meant}
 use Rattle.queue.specs.Words.{moves_in, NoLonger}
 use Rattle.queue.specs.Ready.{Picked, prio_of}
+use Rattle.phases.specs.Cores.{board}
 use Rattle.switches.specs.declared.SwitchList.{SwitchList}
 use Rattle.switches.specs.Entries.{answer_with}
 use Rattle.threads.specs.Slice.{MovesFit}
@@ -24,7 +25,7 @@ use Rattle.tick_plan.specs.DoneWith.{DoneWith}
 use Rattle.decide.specs.Forced.{asked, absent}
 
 -- a forced switch that is done once the moves are applied to the records
-pub record ForcePending (core : ℕ) (named : Option ℕ) (a : CallAnswer) (l : SwitchList) (s s' : Sched) (count : ℕ) (ts : List ThreadInfo) (qs qs' ps ls ls' ws ws' : List ℕ) : Type 0 where
+pub record ForcePending (core : ℕ) (named : Option ℕ) (a : Result Unit Refusal) (l : SwitchList) (s s' : Sched) (count : ℕ) (ts : List ThreadInfo) (qs qs' ps ls ls' ws ws' : List ℕ) : Type 0 where
   pub fits : MovesFit ts ws' count
   pub done : (ts' : List ThreadInfo) → MovedRecords s.now.0 ws' count ts ts' → DoneWith (force core named) (answer_with a l) l s s' (memory ts qs ps ls ws) (memory ts' qs' ps ls' ws')
 
@@ -62,8 +63,8 @@ pub record ForceFits (s : Sched) (core at : ℕ) (qs ws : List ℕ) : Type 0 whe
   pub pick : (who : Option ℕ) × Picked who (take s.queued qs) at
 
 pub record ForcedOf (s : Sched) (core at : ℕ) (qs qs' ws ws' : List ℕ) (p : Planned) : Type 0 where
-  pub cores : firsts (core_from (states_of p.states) p.exits p.blocks p.yields p.progressed) s.cores ≡ update core (forced_core s.config.switch_cost (get_or (take s.queued qs) at 0)) (firsts (cores_of s) s.cores)
-  pub others : (j : ℕ) → (j ≡ core → ⊥) → core_from (states_of p.states) p.exits p.blocks p.yields p.progressed j ≡ cores_of s j
+  pub cores : firsts (board (states_of p.states) p.marks) s.cores ≡ update core (forced_core s.config.switch_cost (get_or (take s.queued qs) at 0)) (firsts (cores_of s) s.cores)
+  pub others : (j : ℕ) → (j ≡ core → ⊥) → board (states_of p.states) p.marks j ≡ cores_of s j
   pub left : take p.queued qs' ≡ without (get_or (take s.queued qs) at 0) (take s.queued qs ++ back_of (state_at s core))
   pub moves : moves_in ws' p.moves ≡ out_of core (state_at s core) ++ dispatch_moves s.config.switch_cost (get_or (take s.queued qs) at 0) core
   pub queue : NoLonger s.queued p.queued qs qs'
@@ -71,30 +72,22 @@ pub record ForcedOf (s : Sched) (core at : ℕ) (qs qs' ws ws' : List ℕ) (p : 
   pub behind : drop move_room ws' ≡ drop move_room ws
   pub long_queue : length qs' ≡ length qs
   pub long_lanes : length ws' ≡ length ws
-  pub exits : length p.exits ≡ 8
-  pub blocks : length p.blocks ≡ 8
-  pub yields : length p.yields ≡ 8
-  pub progressed : length p.progressed ≡ 8
+  pub exits : length p.marks.exits ≡ 8
+  pub blocks : length p.marks.blocks ≡ 8
+  pub yields : length p.marks.yields ≡ 8
+  pub progressed : length p.marks.progressed ≡ 8
   pub words : p.states ≡ packed (states_of p.states)
 
 -- the state that is left
 abbrev pub forced_sched : Sched → Planned → Written → Sched
 forced_sched s p w =
-    record {
-      config = s.config;
-      capacities = s.capacities;
-      cores = s.cores;
-      threads = s.threads;
+    record s {
       queued = p.queued;
-      now = s.now;
       context_switches = s.context_switches + w.takes;
-      closed = s.closed;
       states = p.states;
-      exits = p.exits;
-      blocks = p.blocks;
-      yields = p.yields;
-      progressed = p.progressed;
-      ticks = s.ticks;
+      exits = p.marks.exits;
+      blocks = p.marks.blocks;
+      yields = p.marks.yields;
+      progressed = p.marks.progressed;
       log = w.log;
-      lanes = s.lanes;
     }

@@ -8,60 +8,50 @@ ghost use Rattle.state.specs.State.{Valid};
 ghost use Rattle.force_plan.specs.Plan.{AskedAt, ForceFits, ForcedOf, Forceable, ForcePending, forced_sched};
 
 use crate::check_force;
-use decide::force::{force_on, forced_place};
-use model::{CallAnswer, CoreId, OptionTid, Tick};
-use state::Sched;
+use decide::force::{force_core, place_asked};
+use model::{CoreId, Tid};
+use queue::moves::Moves;
+use queue::ready::ReadyQueue;
+use state::{Sched, pack, unpack};
 use switches::switch_list;
-use tick_plan::tick::{core_states, planned, write};
-use tick_plan::{Decided, Planned, Written};
-
-// The tick at which the moves are written: a forced switch takes no tick.
-pub fn present_tick(s: Sched) -> Tick
-    ensures { result.0 ≡ s.now.0 }
-{
-    let now = s.now;
-    now
-}
+use tick_plan::tick::write;
+use tick_plan::{Decided, Planned, Written, marks_of};
+use turns::Marks;
 
 // The place in the queue of the thread that is asked for; behind the last one where it is not there.
-fn place(s: Sched, named: OptionTid, queue: &[u32], prios: &[u32]) -> usize
+fn place(s: Sched, named: Option<Tid>, queue: &[u32], prios: &[u32]) -> usize
     requires { (s.queued ≤ length queue.now) × (s.threads ≤ length prios.now) }
     ensures { AskedAt s (option_tid_meant named) queue.now prios.now result }
 {
-    let config = s.config;
-    let policy = config.policy;
-    let threads = s.threads;
-    forced_place(policy, &prios[..threads], queue, s.queued, named)
+    let waiting = &queue[..s.queued];
+    place_asked(s.config.policy, &prios[..s.threads], waiting, named).unwrap_or(s.queued)
 }
 
-// The core takes the thread at a place of the queue, on copies of the marks; the moves go to the first 80 words of the lanes.
+// The core takes the thread at a place of the queue; the moves go to the first 80 words of the lanes.
 fn plan(s: Sched, core: CoreId, at: usize, queue: &mut [u32], lanes: &mut [u64]) -> Planned
     requires { ForceFits s core.0 at queue.old lanes.old }
     ensures { ForcedOf s core.0 at queue.old queue.new lanes.old lanes.new result }
 {
-    let states = core_states(s);
-    let config = s.config;
-    let mut exits = s.exits;
-    let mut blocks = s.blocks;
-    let mut yields = s.yields;
-    let mut progressed = s.progressed;
-    let mut queued = s.queued;
-    let mut moves: usize = 0;
-    let next = force_on(
-        states,
+    let mut marks = marks_of(s);
+    let mut ready = ReadyQueue {
+        words: queue,
+        len: s.queued,
+    };
+    let (front, _) = lanes.split_at_mut(80);
+    let mut moves = Moves {
+        words: front,
+        count: 0,
+    };
+    let next = force_core(
+        unpack(s.states),
         core,
         at,
-        config.switch_cost,
-        &mut exits,
-        &mut blocks,
-        &mut yields,
-        &mut progressed,
-        queue,
-        &mut queued,
-        &mut lanes[..80],
+        s.config.switch_cost,
+        &mut marks,
+        &mut ready,
         &mut moves,
     );
-    planned(next, exits, blocks, yields, progressed, queued, moves)
+    Planned::new(pack(next), marks, ready.len, moves.count)
 }
 
 // The state after a forced switch.
@@ -69,34 +59,28 @@ fn after_force(s: Sched, p: Planned, w: Written) -> Sched
     requires { s.context_switches + w.takes < 2 ^ 64 }
     ensures { result ≡ forced_sched s p w }
 {
-    let config = s.config;
-    let capacities = s.capacities;
-    let tick = s.now;
-    let states = p.states;
-    let exits = p.exits;
-    let blocks = p.blocks;
-    let yields = p.yields;
-    let progressed = p.progressed;
-    let ticks = s.ticks;
-    let lanes = s.lanes;
-    let log = w.log;
+    let Planned {
+        states,
+        marks,
+        queued,
+        ..
+    } = p;
+    let Marks {
+        exits,
+        blocks,
+        yields,
+        progressed,
+    } = marks;
     Sched {
-        config,
-        capacities,
-        cores: s.cores,
-        threads: s.threads,
-        queued: p.queued,
-        now: tick,
+        queued,
         context_switches: s.context_switches + w.takes,
-        closed: s.closed,
         states,
         exits,
         blocks,
         yields,
         progressed,
-        ticks,
-        log,
-        lanes,
+        log: w.log,
+        ..s
     }
 }
 
@@ -116,14 +100,12 @@ fn force_taken(
         queue.old queue.new ps log.old log.new lanes.old lanes.new }
 {
     let planned = plan(s, core, at, queue, lanes);
-    let tick = present_tick(s);
-    let written = write(s, log, lanes, planned.moves, tick);
-    let sched = after_force(s, planned, written);
-    let switches = written.switches;
+    // A forced switch takes no tick.
+    let written = write(s, log, lanes, planned.moves, s.now);
     Decided {
-        sched,
-        answer: CallAnswer::Taken,
-        switches,
+        sched: after_force(s, planned, written),
+        answer: Ok(()),
+        switches: written.switches,
         moves: planned.moves,
     }
 }
@@ -132,7 +114,7 @@ fn force_taken(
 pub fn force_decided(
     s: Sched,
     core: CoreId,
-    named: OptionTid,
+    named: Option<Tid>,
     queue: &mut [u32],
     prios: &[u32],
     log: &mut [u64],
@@ -146,15 +128,12 @@ pub fn force_decided(
     let at = place(s, named, queue, prios);
     let answer = check_force(s, core, named, at);
     match answer {
-        CallAnswer::Refused(_) => {
-            let switches = switch_list(lanes, 0);
-            Decided {
-                sched: s,
-                answer,
-                switches,
-                moves: 0,
-            }
-        }
-        CallAnswer::Taken => force_taken(s, core, at, queue, log, lanes),
+        Err(_) => Decided {
+            sched: s,
+            answer,
+            switches: switch_list(lanes, 0),
+            moves: 0,
+        },
+        Ok(()) => force_taken(s, core, at, queue, log, lanes),
     }
 }

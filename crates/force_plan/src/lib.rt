@@ -7,15 +7,15 @@ pub mod force;
 
 ghost use Rattle.std.specs.Prelude.{◌≡◌, ◌≤◌};
 ghost use Rattle.settings.specs.Reading.{refusal_number};
-ghost use Rattle.model.specs.Calls.{any_leaving, is_switching};
-ghost use Rattle.model.specs.Reading.{core_state_meant, option_tid_meant};
+ghost use Rattle.model.specs.Calls.{any_leaving};
+ghost use Rattle.model.specs.Reading.{option_tid_meant};
 ghost use Rattle.decide.specs.Forced.{absent};
 ghost use Rattle.state.specs.State.{firsts};
 ghost use Rattle.checks.specs.Check.{check_meant};
 ghost use Rattle.force_plan.specs.Plan.{cores_of, force_refusal};
 
 use checks::LIMIT;
-use model::{CallAnswer, CoreId, CoreState, OptionTid};
+use model::{CoreId, Tid};
 use settings::Refusal;
 use state::{Sched, state_at};
 
@@ -26,64 +26,47 @@ fn any_leaving(s: Sched) -> bool
 {
     let exits = s.exits;
     let blocks = s.blocks;
-    let n = s.cores;
-    let mut i: usize = 0;
-    while i < n {
-        if exits[i] {
+    for i in 0..s.cores {
+        if exits[i] || blocks[i] {
             return true;
         }
-        if blocks[i] {
-            return true;
-        }
-        i = i + 1;
     }
     false
 }
 
-fn is_switching(state: CoreState) -> bool
-    ensures { result ≡ is_switching (core_state_meant state) }
-{
-    match state {
-        CoreState::Idle => false,
-        CoreState::Switching { tid: _, left: _ } => true,
-        CoreState::Running { tid: _, slice: _ } => false,
-    }
-}
-
 // 15 where a thread is named, 16 where none is.
-fn nobody(named: OptionTid) -> Refusal
+fn nobody(named: Option<Tid>) -> Refusal
     ensures { refusal_number result ≡ absent (option_tid_meant named) }
 {
     match named {
-        OptionTid::None => Refusal::NobodyWaits,
-        OptionTid::Some(_) => Refusal::NotReady,
+        None => Refusal::NobodyWaits,
+        Some(_) => Refusal::NotReady,
     }
 }
 
 // force_switch: 4, 11, 12 on any core, 14, 15 or 16, 19; `at` is the place in the queue of the thread that is asked for
-pub fn check_force(s: Sched, core: CoreId, named: OptionTid, at: usize) -> CallAnswer
+pub fn check_force(s: Sched, core: CoreId, named: Option<Tid>, at: usize) -> Result<(), Refusal>
     requires { s.cores ≤ 8 }
     ensures { check_meant result ≡ force_refusal s core.0 (option_tid_meant named) at }
 {
     let i = core.0 as usize;
     if s.cores <= i {
-        return CallAnswer::Refused(Refusal::NoCore);
+        return Err(Refusal::NoCore);
     }
     if s.closed {
-        return CallAnswer::Refused(Refusal::Closed);
+        return Err(Refusal::Closed);
     }
     if any_leaving(s) {
-        return CallAnswer::Refused(Refusal::Leaving);
+        return Err(Refusal::Leaving);
     }
-    let states = s.states;
-    if is_switching(state_at(states, i)) {
-        return CallAnswer::Refused(Refusal::StillSwitching);
+    if state_at(s.states, i).is_switching() {
+        return Err(Refusal::StillSwitching);
     }
     if s.queued <= at {
-        return CallAnswer::Refused(nobody(named));
+        return Err(nobody(named));
     }
     if 10 * LIMIT <= s.context_switches {
-        return CallAnswer::Refused(Refusal::CounterLimit);
+        return Err(Refusal::CounterLimit);
     }
-    CallAnswer::Taken
+    Ok(())
 }

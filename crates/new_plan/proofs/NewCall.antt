@@ -1,4 +1,6 @@
 -- The call `new`, put together: the first record, its priority, the log's first events, and the state are the definition's first state.
+use Rattle.std.specs.Prelude.{Result}
+use Rattle.settings.specs.declared.Refusal.{Refusal}
 use Prim.Native.Nat.{ℕ, zero, suc, pred, ◌+◌, ◌-◌, ◌*◌, ◌<◌, ◌≤◌}
 use mathlib.Core.Path.{◌≡◌, refl, sym, ap, ap₂, ◌∙◌, subst}
 use mathlib.Core.Bool.{false}
@@ -15,7 +17,6 @@ use Rattle.settings.specs.declared.SchedConfig.{SchedConfig}
 use Rattle.settings.specs.Reading.{policy_meant}
 use Rattle.model.specs.Invariants.{Bounded}
 use Rattle.model.specs.declared.ThreadInfo.{ThreadInfo}
-use Rattle.model.specs.declared.CallAnswer.{CallAnswer}
 use Rattle.model.specs.declared.CoreState as Program
 use Rattle.model.specs.declared.CoreState.TheVariants as CoreStateCases
 use Rattle.model.specs.Types.{Core, Running, ThreadRecord, Config}
@@ -276,8 +277,8 @@ module _ (c : SchedConfig) (n : ℕ) (k : Capacities) (entry : ℕ) (ts : List T
     pub new-taken : NewTaken c n k entry (memory ts qs ps ls ws) (memory ts' qs ps' ls' ws) s
     new-taken = record { state = is-new h ∙ ap made (sym state-is); valid = valid-is; threads = drop-firsts (same_at t) 1 ts; queue = refl; prios = rest-set 10 ps; log = logged.rest; lanes = refl; ticks = λ i l. no-ticks i; places = λ i l. no-lane i }
 
-  module _ (g : CallAnswer) (e : check_meant g ≡ why) (t : ThreadInfo) (first : thread_meant t ≡ first_thread entry) (ts' : List ThreadInfo) (w : ts' ≡ Walk.firsts (same_at t) (taken_count (check_meant g)) ts)
-      (ps' ls' : List ℕ) (s : Sched) (a : CallAnswer) (f : CreatedAs c n k g ps ps' ls ls' s a) where
+  module _ (g : Result Unit Refusal) (e : check_meant g ≡ why) (t : ThreadInfo) (first : thread_meant t ≡ first_thread entry) (ts' : List ThreadInfo) (w : ts' ≡ Walk.firsts (same_at t) (taken_count (check_meant g)) ts)
+      (ps' ls' : List ℕ) (s : Sched) (a : Result Unit Refusal) (f : CreatedAs c n k g ps ps' ls ls' s a) where
     refused-same : (m : ℕ) → check_meant g ≡ some m → Unchanged (memory ts qs ps ls ws) (memory ts' qs ps' ls' ws)
     unfolding Walk.firsts
     refused-same m z = (w ∙ ap (λ (o : Option ℕ). Walk.firsts (same_at t) (taken_count o) ts) z, refl, (f.refused m z).0, (f.refused m z).1, refl)

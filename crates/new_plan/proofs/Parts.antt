@@ -1,5 +1,6 @@
 -- What `new` checks, and the log's ring with its first two events.
-use Prim.Native.Nat.{ℕ, zero, suc, ◌-◌, ◌*◌, ◌/◌, ◌≤◌}
+use Rattle.std.specs.Prelude.{Ok, Err, Result}
+use Prim.Native.Nat.{ℕ, zero, suc, ◌-◌, ◌*◌, ◌/◌, ◌≤◌, max}
 use mathlib.Core.Path.{◌≡◌, refl, sym, ap, ◌∙◌}
 use mathlib.Core.Bool.{Bool, true, false, ◌||◌}
 use mathlib.Core.Option.{Option, none, some}
@@ -13,8 +14,6 @@ use Rattle.settings.specs.declared.SchedConfig.{SchedConfig}
 use Rattle.settings.specs.declared.Refusal.{Refusal}
 use Rattle.settings.specs.Reading.{refusal_number}
 use Rattle.settings.specs.Policy.{beyond}
-use Rattle.model.specs.declared.CallAnswer.{CallAnswer}
-use Rattle.model.specs.declared.CallAnswer.TheVariants as CallCases
 use Rattle.model.specs.Types.{Event, Spawned, Dispatched}
 use Rattle.model.specs.Accounting.{newest}
 use Rattle.model.specs.Calls.{check, refused_new}
@@ -31,14 +30,10 @@ use Rattle.new_plan.specs.First.{core_count, bad_capacity, is_short, or_refusal,
 
 ---- numbers
 
-pub count-zero : (n : ℕ) → n ≡ 0 → 1 ≡ core_count n
+pub count-is : (n : ℕ) → max n 1 ≡ core_count n
 unfolding core_count
-count-zero n e = rw e
-
-pub count-more : (n : ℕ) → (n ≡ 0 → ⊥) → n ≡ core_count n
-unfolding core_count
-count-more zero h = absurd (h refl)
-count-more (suc n) h = refl
+count-is zero = refl
+count-is (suc n) = omega arith
 
 pub count-few : (n : ℕ) → n ≤ 8 → core_count n ≤ 8
 unfolding core_count
@@ -129,12 +124,12 @@ log-empty e ls h k g = let l : length (take (2 * e) ls) ≡ 2 * e = length-take-
 no_both : {B : Type 0} (n : ℕ) (o : Option ℕ) → o ≡ none → o ≡ some n → B
 no_both n o e f = absurd (let z : ◌≡◌ {A = ℕ} 0 1 = cc in omega arith)
 
-pub created-refused : (c : SchedConfig) (cores : ℕ) (k : Capacities) (a : CallAnswer) (ps ls : List ℕ) (s : Sched) (x : Refusal) → a ≡ CallCases.Refused x → CreatedAs c cores k a ps ps ls ls s a
+pub created-refused : (c : SchedConfig) (cores : ℕ) (k : Capacities) (a : Result Unit Refusal) (ps ls : List ℕ) (s : Sched) (x : Refusal) → a ≡ Err x → CreatedAs c cores k a ps ps ls ls s a
 created-refused c cores k a ps ls s x e =
     record { answer = refl; long_prios = refl; long_log = refl; refused = λ n h. (refl, refl); taken = λ h. no_both (refusal_number x) (check_meant a) h (ap check_meant e) }
 
 pub created-taken :
-    (c : SchedConfig) (cores : ℕ) (k : Capacities) (a : CallAnswer) (ps ls ls' : List ℕ) (s : Sched) (p : RingPos) → a ≡ CallCases.Taken → s ≡ first_sched c cores k → FirstLogged (2 * k.events) ls ls' p
+    (c : SchedConfig) (cores : ℕ) (k : Capacities) (a : Result Unit Refusal) (ps ls ls' : List ℕ) (s : Sched) (p : RingPos) → a ≡ Ok tt → s ≡ first_sched c cores k → FirstLogged (2 * k.events) ls ls' p
     → CreatedAs c cores k a ps (set ps 0 10) ls ls' (with_log p s) a
 created-taken c cores k a ps ls ls' s p e h f =
     record { answer = refl; long_prios = length-set ps 0 10; long_log = f.long; refused = λ n g. no_both n (check_meant a) (ap check_meant e) g; taken = λ g. (ap (with_log p) h, refl, f) }

@@ -1,9 +1,9 @@
 -- The parts of the call `new`. 01: "`new` checks 1, 2, 3."; "`new` starts thread 0 running on core 0, priority 10."
-use Rattle.std.specs.Prelude.{ℕ, suc, pred, ◌+◌, ◌*◌, ◌<◌, ◌≤◌, ◌≡◌, Bool, true, false, ◌||◌, List, [], ◌∷◌, ltb, length, take, drop, set, replicate}
+use Rattle.settings.specs.declared.Refusal.{Refusal}
+use Rattle.std.specs.Prelude.{ℕ, suc, pred, ◌*◌, ◌<◌, ◌≤◌, ◌≡◌, Bool, false, ◌||◌, List, [], ◌∷◌, ltb, length, take, drop, set, replicate, Result}
 use Rattle.std.proofs.Math.Option.{Option, none, some}
 use Rattle.settings.specs.declared.SchedConfig.{SchedConfig}
 use Rattle.settings.specs.Policy.{beyond}
-use Rattle.model.specs.declared.CallAnswer.{CallAnswer}
 use Rattle.model.specs.Types.{Event, Spawned, Dispatched}
 use Rattle.model.specs.Accounting.{newest}
 use Rattle.model.specs.Calls.{check, refused_new}
@@ -63,25 +63,7 @@ first_sched c n k =
     }
 
 abbrev pub with_log : RingPos → Sched → Sched
-with_log p s =
-    record {
-      config = s.config;
-      capacities = s.capacities;
-      cores = s.cores;
-      threads = s.threads;
-      queued = s.queued;
-      now = s.now;
-      context_switches = s.context_switches;
-      closed = s.closed;
-      states = s.states;
-      exits = s.exits;
-      blocks = s.blocks;
-      yields = s.yields;
-      progressed = s.progressed;
-      ticks = s.ticks;
-      log = p;
-      lanes = s.lanes;
-    }
+with_log p s = record s { log = p }
 
 -- 01: "Spawn, dispatch, leave, wake and priority change each write one event"; the newest are kept
 unfoldable pub first_events : (cap_e : ℕ) → List Event
@@ -102,7 +84,7 @@ pub record CreateFit (k : Capacities) (r : Option ℕ) (ps ls : List ℕ) : Type
   pub log : r ≡ none → 2 * k.events ≤ length ls
 
 -- and what it leaves
-pub record CreatedAs (c : SchedConfig) (cores : ℕ) (k : Capacities) (given : CallAnswer) (ps ps' ls ls' : List ℕ) (s : Sched) (a : CallAnswer) : Type 0 where
+pub record CreatedAs (c : SchedConfig) (cores : ℕ) (k : Capacities) (given : Result Unit Refusal) (ps ps' ls ls' : List ℕ) (s : Sched) (a : Result Unit Refusal) : Type 0 where
   pub answer : a ≡ given
   pub long_prios : length ps' ≡ length ps
   pub long_log : length ls' ≡ length ls

@@ -10,7 +10,7 @@ ghost use Rattle.settings.specs.Policy.{beyond};
 ghost use Rattle.checks.specs.Check.{check_meant};
 ghost use Rattle.new_plan.specs.First.{core_count, bad_capacity, is_short, new_refusal, taken_count, first_sched, first_events, FirstLogged, CreateFit, CreatedAs};
 
-use model::{CallAnswer, CoreId, CoreTicks, OptionTid, SchedEvent, SchedEventKind, Tick, Tid};
+use model::{CoreId, CoreTicks, SchedEvent, SchedEventKind, Tick, Tid};
 use rings::RingPos;
 use rings::events::push_event;
 use settings::numbers::is_beyond;
@@ -21,32 +21,27 @@ use state::{Capacities, CoreWords, Sched, others_idle};
 #[derive(Clone, Copy)]
 pub struct Created {
     pub sched: Sched,
-    pub answer: CallAnswer,
+    pub answer: Result<(), Refusal>,
 }
 
 // "0 counts as 1."
 fn core_count(cores: u32) -> usize
     ensures { result ≡ core_count cores }
 {
-    if cores == 0 {
-        return 1;
-    }
-    cores as usize
+    cores.max(1) as usize
 }
 
+#[tactic(auto, unfolding(crate::specs::First::bad_capacity))]
 fn is_bad_capacity(capacities: Capacities) -> bool
     ensures { result ≡ bad_capacity capacities }
 {
-    if is_beyond(1, 256, capacities.threads as u64) {
-        return true;
-    }
-    if is_beyond(1, 512, capacities.events as u64) {
-        return true;
-    }
-    is_beyond(1, 4096, capacities.segments as u64)
+    is_beyond(1, 256, capacities.threads as u64)
+        || is_beyond(1, 512, capacities.events as u64)
+        || is_beyond(1, 4096, capacities.segments as u64)
 }
 
 // Whether the memory that the host lends is too small for the capacities.
+#[tactic(auto, unfolding(crate::specs::First::is_short))]
 fn is_short(
     capacities: Capacities,
     cores: u32,
@@ -59,19 +54,11 @@ fn is_short(
     requires { (cores ≤ 8) × (capacities.events ≤ 512) × (capacities.segments ≤ 4096) }
     ensures { result ≡ is_short capacities cores threads queue prios log lanes }
 {
-    if threads < capacities.threads {
-        return true;
-    }
-    if queue < capacities.threads {
-        return true;
-    }
-    if prios < capacities.threads {
-        return true;
-    }
-    if log < 2 * capacities.events {
-        return true;
-    }
-    lanes < 80 + core_count(cores) * (2 * capacities.segments)
+    threads < capacities.threads
+        || queue < capacities.threads
+        || prios < capacities.threads
+        || log < 2 * capacities.events
+        || lanes < 80 + core_count(cores) * (2 * capacities.segments)
 }
 
 // new: 1, 2, 3
@@ -84,34 +71,34 @@ pub fn check_new(
     prios: usize,
     log: usize,
     lanes: usize,
-) -> CallAnswer
+) -> Result<(), Refusal>
     ensures { check_meant result ≡ new_refusal config cores capacities threads queue prios log lanes }
 {
-    if is_beyond(1, 1_000_000, config.quantum as u64) {
-        return CallAnswer::Refused(Refusal::SettingRange);
+    if is_beyond(1, SchedConfig::MAX_QUANTUM as u64, config.quantum as u64) {
+        return Err(Refusal::SettingRange);
     }
-    if 10_000 < config.switch_cost {
-        return CallAnswer::Refused(Refusal::SettingRange);
+    if SchedConfig::MAX_SWITCH_COST < config.switch_cost {
+        return Err(Refusal::SettingRange);
     }
     if 8 < cores {
-        return CallAnswer::Refused(Refusal::CoreCount);
+        return Err(Refusal::CoreCount);
     }
     if is_bad_capacity(capacities) {
-        return CallAnswer::Refused(Refusal::Capacity);
+        return Err(Refusal::Capacity);
     }
     if is_short(capacities, cores, threads, queue, prios, log, lanes) {
-        return CallAnswer::Refused(Refusal::Capacity);
+        return Err(Refusal::Capacity);
     }
-    CallAnswer::Taken
+    Ok(())
 }
 
 // How many records are written: one, or none where the call is refused.
-pub fn taken_count(answer: CallAnswer) -> usize
+pub fn taken_count(answer: Result<(), Refusal>) -> usize
     ensures { result ≡ taken_count (check_meant answer) }
 {
     match answer {
-        CallAnswer::Taken => 1,
-        CallAnswer::Refused(_) => 0,
+        Ok(()) => 1,
+        Err(_) => 0,
     }
 }
 
@@ -125,23 +112,21 @@ fn first_sched(config: SchedConfig, cores: u32, capacities: Capacities) -> Sched
         idle: 0,
     };
     let empty = RingPos { last: 0, len: 0 };
-    let count = core_count(cores);
     let running = CoreWords {
         kind: 2,
         tid: 0,
         count: 0,
     };
-    let states = others_idle(running);
     Sched {
-        config: config,
-        capacities: capacities,
-        cores: count,
+        config,
+        capacities,
+        cores: core_count(cores),
         threads: 1,
         queued: 0,
         now: Tick(0),
         context_switches: 0,
         closed: false,
-        states: states,
+        states: others_idle(running),
         exits: [false; 8],
         blocks: [false; 8],
         yields: [false; 8],
@@ -161,9 +146,7 @@ fn push_first(ring: &mut [u64], pos: RingPos) -> RingPos
     let spawn = SchedEvent {
         tick: Tick(0),
         tid: Tid(0),
-        kind: SchedEventKind::Spawn {
-            parent: OptionTid::None,
-        },
+        kind: SchedEventKind::Spawn { parent: None },
     };
     let dispatch = SchedEvent {
         tick: Tick(0),
@@ -188,7 +171,7 @@ pub fn new_finished(
     config: SchedConfig,
     cores: u32,
     capacities: Capacities,
-    answer: CallAnswer,
+    answer: Result<(), Refusal>,
     prios: &mut [u32],
     log: &mut [u64],
 ) -> Created
@@ -197,11 +180,11 @@ pub fn new_finished(
 {
     let first = first_sched(config, cores, capacities);
     match answer {
-        CallAnswer::Refused(_) => Created {
+        Err(_) => Created {
             sched: first,
             answer,
         },
-        CallAnswer::Taken => {
+        Ok(()) => {
             prios[0] = 10;
             let words = 2 * capacities.events;
             let pos = log_first(log, words);

@@ -1,4 +1,6 @@
 -- Which call of the definition a call stands for, and which answer an outcome with its switch list.
+use Rattle.std.specs.Prelude.{Result, Ok, Err}
+use Rattle.settings.specs.declared.Refusal.{Refusal}
 use Rattle.settings.specs.Reading.{refusal_number}
 use Rattle.model.specs.Calls as Calls
 use Rattle.model.specs.Reading.{option_tid_meant, join_meant, switches_meant}
@@ -21,9 +23,9 @@ call_meant CallCases.EndTick = Calls.tick
 call_meant (CallCases.Close c) = Calls.close c.0
 
 -- the switch list counts where the outcome says so
-abbrev pub outcome_meant : Outcome → SwitchList → Calls.Answer
-outcome_meant (OutcomeCases.Refused r) l = Calls.refused (refusal_number r)
-outcome_meant OutcomeCases.Taken l = Calls.ok
-outcome_meant (OutcomeCases.Spawned t) l = Calls.spawned t.0
-outcome_meant (OutcomeCases.Joined o) l = Calls.joined (join_meant o)
-outcome_meant OutcomeCases.Switched l = Calls.switched (switches_meant l.entries l.count)
+abbrev pub outcome_meant : Result Outcome Refusal → SwitchList → Calls.Answer
+outcome_meant (Err r) l = Calls.refused (refusal_number r)
+outcome_meant (Ok OutcomeCases.Taken) l = Calls.ok
+outcome_meant (Ok (OutcomeCases.Spawned t)) l = Calls.spawned t.0
+outcome_meant (Ok (OutcomeCases.Joined o)) l = Calls.joined (join_meant o)
+outcome_meant (Ok OutcomeCases.Switched) l = Calls.switched (switches_meant l.entries l.count)

@@ -1,78 +1,47 @@
 // What each call answered, as one kind of answer.
 ghost use Rattle.std.specs.Prelude.{◌≡◌};
-ghost use Rattle.sched.specs.Answers.{of_answered, of_spawn, of_join, of_ticked};
+ghost use Rattle.std.specs.Result.{MatchResult, IsOkAnd};
+ghost use Rattle.switches.specs.Entries.{no_switches};
+ghost use Rattle.sched.specs.Answers.{of_ticked, taken};
 
 use crate::{Applied, Outcome};
-use model::{CallAnswer, JoinAnswer, SpawnAnswer};
 use sched_marks::Answered;
-use sched_threads::answers::{JoinAnswered, SpawnAnswered};
 use switches::no_switches;
 use tick_plan::Ticked;
 
-pub fn of_answered(a: Answered) -> Applied
-    ensures { result ≡ of_answered a }
+// `how` makes of what a taken call says the way in which it was taken.
+pub fn of_answered<A: Copy, F: FnOnce(A) -> Outcome>(a: Answered<A>, how: F) -> Applied
+    requires { F.IsAlwaysCallable how }
+    ensures state { result.sched ≡ a.sched }
+    ensures outcome { MatchResult a.answer (λ x. IsOkAnd result.outcome (F.post how x)) (λ r. result.outcome ≡ Err r) }
+    ensures switches { result.switches ≡ no_switches }
 {
-    let sched = a.sched;
-    let answer = a.answer;
-    let switches = no_switches();
-    let outcome = match answer {
-        CallAnswer::Taken => Outcome::Taken,
-        CallAnswer::Refused(r) => Outcome::Refused(r),
-    };
     Applied {
-        sched,
-        outcome,
-        switches,
+        sched: a.sched,
+        outcome: a.answer.map(how),
+        switches: no_switches(),
     }
 }
 
-pub fn of_spawn(a: SpawnAnswered) -> Applied
-    ensures { result ≡ of_spawn a }
+// A call that says no more than that it was taken.
+pub fn of_taken(a: Answered<()>) -> Applied
+    ensures state { result.sched ≡ a.sched }
+    ensures outcome { result.outcome ≡ taken a.answer }
+    ensures switches { result.switches ≡ no_switches }
 {
-    let sched = a.sched;
-    let answer = a.answer;
-    let switches = no_switches();
-    let outcome = match answer {
-        SpawnAnswer::Spawned(t) => Outcome::Spawned(t),
-        SpawnAnswer::Refused(r) => Outcome::Refused(r),
-    };
     Applied {
-        sched,
-        outcome,
-        switches,
-    }
-}
-
-pub fn of_join(a: JoinAnswered) -> Applied
-    ensures { result ≡ of_join a }
-{
-    let sched = a.sched;
-    let answer = a.answer;
-    let switches = no_switches();
-    let outcome = match answer {
-        JoinAnswer::Joined(o) => Outcome::Joined(o),
-        JoinAnswer::Refused(r) => Outcome::Refused(r),
-    };
-    Applied {
-        sched,
-        outcome,
-        switches,
+        sched: a.sched,
+        outcome: a.answer.map(|()| Outcome::Taken),
+        switches: no_switches(),
     }
 }
 
 pub fn of_ticked(a: Ticked) -> Applied
     ensures { result ≡ of_ticked a }
 {
-    let sched = a.sched;
-    let answer = a.answer;
-    let switches = a.switches;
-    let outcome = match answer {
-        CallAnswer::Taken => Outcome::Switched,
-        CallAnswer::Refused(r) => Outcome::Refused(r),
-    };
     Applied {
-        sched,
-        outcome,
-        switches,
+        sched: a.sched,
+        outcome: a.answer.map(|()| Outcome::Switched),
+        switches: a.switches,
     }
 }

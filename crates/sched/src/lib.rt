@@ -9,8 +9,8 @@ ghost use Rattle.state.specs.State.{Valid};
 ghost use Rattle.tick_plan.specs.DoneWith.{DoneWith};
 ghost use Rattle.sched.specs.Meant.{call_meant, outcome_meant};
 
-use answers::{of_answered, of_join, of_spawn, of_ticked};
-use model::{CoreId, JoinOutcome, OptionTid, ThreadInfo, Tid};
+use answers::{of_answered, of_taken, of_ticked};
+use model::{CoreId, JoinOutcome, ThreadInfo, Tid};
 use sched_close::close;
 use sched_exit::exit;
 use sched_force::force_switch;
@@ -24,22 +24,21 @@ use switches::SwitchList;
 // A call with its arguments.
 #[derive(Clone, Copy)]
 pub enum Call {
-    Spawn(OptionTid, u32),
+    Spawn(Option<Tid>, u32),
     Exit(CoreId),
     Join(CoreId, Tid),
     Retired(CoreId),
     YieldNow(CoreId),
     SetPriority(Tid, u32),
     SetTiming(u32, u32),
-    ForceSwitch(CoreId, OptionTid),
+    ForceSwitch(CoreId, Option<Tid>),
     EndTick,
     Close(CoreId),
 }
 
-// What a call says: the refusal, or how it was taken. After `Switched` the switch list has the entries; otherwise it has none.
+// How a call was taken. After `Switched` the switch list has the entries; otherwise it has none.
 #[derive(Clone, Copy)]
 pub enum Outcome {
-    Refused(Refusal),
     Taken,
     Spawned(Tid),
     Joined(JoinOutcome),
@@ -50,7 +49,7 @@ pub enum Outcome {
 #[derive(Clone, Copy)]
 pub struct Applied {
     pub sched: Sched,
-    pub outcome: Outcome,
+    pub outcome: Result<Outcome, Refusal>,
     pub switches: SwitchList,
 }
 
@@ -71,29 +70,30 @@ pub fn apply(
 {
     match call {
         Call::Spawn(parent, entry_pc) => {
-            of_spawn(spawn(s, parent, entry_pc, threads, queue, prios, log))
+            of_answered(
+                spawn(s, parent, entry_pc, threads, queue, prios, log),
+                Outcome::Spawned,
+            )
         }
         // Here and at `Close` a copy: the callee is not inlined and takes its address. Without it every call would store the state first.
         Call::Exit(core) => {
             let t = s;
-            of_answered(exit(t, core, threads, queue, log))
+            of_taken(exit(t, core, threads, queue, log))
         }
-        Call::Join(core, target) => of_join(join(s, core, target, threads)),
-        Call::Retired(core) => of_answered(retired(s, core)),
-        Call::YieldNow(core) => of_answered(yield_now(s, core, threads)),
+        Call::Join(core, target) => of_answered(join(s, core, target, threads), Outcome::Joined),
+        Call::Retired(core) => of_taken(retired(s, core)),
+        Call::YieldNow(core) => of_taken(yield_now(s, core, threads)),
         Call::SetPriority(tid, number) => {
-            of_answered(set_priority(s, tid, number, threads, prios, log))
+            of_taken(set_priority(s, tid, number, threads, prios, log))
         }
-        Call::SetTiming(quantum, switch_cost) => {
-            of_answered(set_timing(s, quantum, switch_cost))
-        }
+        Call::SetTiming(quantum, switch_cost) => { of_taken(set_timing(s, quantum, switch_cost)) }
         Call::ForceSwitch(core, named) => {
             of_ticked(force_switch(s, core, named, threads, queue, prios, log, lanes))
         }
         Call::EndTick => of_ticked(end_tick(s, threads, queue, prios, log, lanes)),
         Call::Close(core) => {
             let t = s;
-            of_answered(close(t, core, threads, queue, log, lanes))
+            of_taken(close(t, core, threads, queue, log, lanes))
         }
     }
 }

@@ -8,11 +8,11 @@ ghost use Rattle.state.specs.Memory.{memory};
 ghost use Rattle.state.specs.State.{Valid};
 ghost use Rattle.state.specs.Done.{Done};
 
-use close_plan::{charged_cores, charged_threads, close_core, close_finished};
+use close_plan::{charged_threads, close_core, close_finished};
 use model::{CoreId, ThreadInfo};
 use sched_exit::exit;
 use sched_marks::Answered;
-use state::Sched;
+use state::{Sched, unpack};
 use threads::charge_all;
 
 // "`close` does `exit` and phase 1, clears the calls' marks and decides nothing more." A refused call exits a core that is not there and charges no
@@ -24,7 +24,7 @@ pub fn close(
     queue: &mut [u32],
     log: &mut [u64],
     lanes: &mut [u64],
-) -> Answered
+) -> Answered<()>
     requires { (ps : List ℕ) × Valid s (memory threads.old queue.old ps log.old lanes.old) }
     ensures { (ps : List ℕ) → Valid s (memory threads.old queue.old ps log.old lanes.old)
         → Done (Calls.close core.0) (call_answer_meant result.answer) s result.sched
@@ -34,7 +34,7 @@ pub fn close(
     let on = close_core(s, core);
     let e = exit(s, on, threads, queue, log);
     let n = charged_threads(e);
-    let cores = charged_cores(e);
-    charge_all(threads, n, cores);
+    // The thread that exits still holds its core.
+    charge_all(threads, n, unpack(e.sched.states));
     close_finished(s, core, e, lanes)
 }

@@ -9,7 +9,7 @@ ghost use Rattle.state.specs.State.{Valid};
 ghost use Rattle.state.specs.Done.{Done};
 ghost use Rattle.sched_exit.specs.Asked.{ExitAsked};
 
-use exit_plan::{exit_change, exit_finished, exit_place, exit_threads, exit_tid, queued_of};
+use exit_plan::{exit_change, exit_finished, exit_place, exit_threads, exit_tid};
 use model::{CoreId, ThreadInfo};
 use sched_marks::Answered;
 use state::Sched;
@@ -23,7 +23,7 @@ pub fn exit(
     threads: &mut [ThreadInfo],
     queue: &mut [u32],
     log: &mut [u64],
-) -> Answered
+) -> Answered<()>
     requires { ExitAsked s threads.old queue.old log.old }
     ensures { (ps ws : List ℕ) → Valid s (memory threads.old queue.old ps log.old ws)
         → Done (Calls.exit core.0) (call_answer_meant result.answer) s result.sched
@@ -35,7 +35,6 @@ pub fn exit(
     update(threads, i, change);
     let n = exit_threads(s, core);
     let on = exit_tid(s, core);
-    let from = queued_of(s);
-    let len = wake_waiters(threads, n, on, queue, from);
+    let len = wake_waiters(threads, n, on, queue, s.queued);
     exit_finished(s, core, len, queue, log)
 }

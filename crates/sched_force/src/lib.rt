@@ -8,18 +8,17 @@ ghost use Rattle.state.specs.State.{Valid};
 ghost use Rattle.switches.specs.Entries.{answer_with};
 ghost use Rattle.tick_plan.specs.DoneWith.{DoneWith};
 
-use force_plan::force::{force_decided, present_tick};
-use model::{CoreId, OptionTid, ThreadInfo};
+use force_plan::force::force_decided;
+use model::{CoreId, ThreadInfo, Tid};
 use state::Sched;
 use threads::apply_moves;
 use tick_plan::Ticked;
-use tick_plan::tick::{moves_of, ticked};
 
 // The named thread, or the next one, takes the core; a thread that runs there goes to the back. No tick passes: the moves are written at `now`.
 pub fn force_switch(
     s: Sched,
     core: CoreId,
-    named: OptionTid,
+    named: Option<Tid>,
     threads: &mut [ThreadInfo],
     queue: &mut [u32],
     prios: &[u32],
@@ -32,8 +31,6 @@ pub fn force_switch(
         (memory threads.new queue.new prios.now log.new lanes.new) }
 {
     let d = force_decided(s, core, named, queue, prios, log, lanes);
-    let moves = moves_of(d);
-    let tick = present_tick(s);
-    apply_moves(threads, lanes, moves, tick);
-    ticked(d)
+    apply_moves(threads, lanes, d.moves, s.now);
+    d.ticked()
 }

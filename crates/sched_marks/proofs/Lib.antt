@@ -1,2 +1,3 @@
 pub mod Marking
 pub mod MarkCalls
+pub mod Passing

@@ -1,19 +1,18 @@
 -- `retired` and `set_timing`, taken.
-use Prim.Native.Nat.{ℕ, zero, suc, ◌+◌, ◌<◌, ◌≤◌, max}
+use Prim.Native.Nat.{ℕ, ◌<◌, max}
 use mathlib.Core.Path.{◌≡◌, refl, sym, ap, ◌∙◌, subst}
 use mathlib.Core.Bool.{Bool, true, false}
-use mathlib.Core.Option.{Option, none, some}
+use mathlib.Core.Option.{none}
 use mathlib.Core.List.{List}
 use native.Mathlib.Omega.{arith}
-use lib.Dec.{leb}
-use lib.ListN.{length, get_or, set, length-set}
+use lib.ListN.{length, set, length-set}
 use lib.Seq.{get_or-set_same, get_or-set_other}
 use borrow.Author.Tests.{leb-false}
 use Rattle.settings.specs.declared.SchedConfig.{SchedConfig}
 use Rattle.model.specs.declared.ThreadInfo.{ThreadInfo}
-use Rattle.model.specs.Types.{Core, State}
+use Rattle.model.specs.Types.{Core}
 use Rattle.model.specs.Phases.{update}
-use Rattle.model.specs.Calls.{Answer, ok, refusal, accept, check, retired, timing, mark_progress, idle_core}
+use Rattle.model.specs.Calls.{Answer, ok, accept, retired, timing, mark_progress, idle_core}
 use Rattle.model.proofs.Refusals.{check-none}
 use Rattle.state.specs.declared.Sched.{Sched}
 use Rattle.state.specs.Memory.{memory}

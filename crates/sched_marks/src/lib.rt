@@ -4,12 +4,12 @@
 
 pub mod marks;
 
-use model::CallAnswer;
+use settings::Refusal;
 use state::Sched;
 
-// The state that a call leaves, with its answer.
+// The state that a call leaves, with its answer: a refusal, or what a taken call says.
 #[derive(Clone, Copy)]
-pub struct Answered {
+pub struct Answered<A> {
     pub sched: Sched,
-    pub answer: CallAnswer,
+    pub answer: Result<A, Refusal>,
 }

@@ -10,11 +10,12 @@ ghost use Rattle.state.specs.Done.{Done};
 
 use crate::Answered;
 use checks::{check_retired, check_timing};
-use model::{CallAnswer, CoreId};
+use model::CoreId;
+use settings::SchedConfig;
 use state::Sched;
 
 // "`retired` sets the core's progressed mark, also on an idle or switching core."
-pub fn retired(s: Sched, core: CoreId) -> Answered
+pub fn retired(s: Sched, core: CoreId) -> Answered<()>
     requires { Askable s nothing }
     ensures { (ts : List ThreadInfo) (qs ps ls ws : List ℕ) → Valid s (memory ts qs ps ls ws)
         → Done (Calls.retired core.0) (call_answer_meant result.answer) s result.sched (memory ts qs ps ls ws) (memory ts qs ps ls ws) }
@@ -22,15 +23,12 @@ pub fn retired(s: Sched, core: CoreId) -> Answered
     let answer = check_retired(s, core);
     let mut next = s;
     match answer {
-        CallAnswer::Refused(_) => Answered {
+        Err(_) => Answered {
             sched: next,
             answer,
         },
-        CallAnswer::Taken => {
-            let i = core.0 as usize;
-            let progressed = s.progressed;
-            let marked = with_mark(progressed, i);
-            next.progressed = marked;
+        Ok(()) => {
+            next.progressed = with_mark(s.progressed, core.0 as usize);
             Answered {
                 sched: next,
                 answer,
@@ -46,26 +44,27 @@ fn with_mark(marks: [bool; 8], i: usize) -> [bool; 8]
     ensures { result ≡ set marks i true }
 {
     let mut m = marks;
-    for k in 0..8 {
-        m[k] = m[k] | (k == i);
+    for (k, mark) in m.iter_mut().enumerate() {
+        *mark |= k == i;
     }
     m
 }
 
 // "`set_timing` turns quantum 0 into 1."
-pub fn set_timing(s: Sched, quantum: u32, switch_cost: u32) -> Answered
+pub fn set_timing(s: Sched, quantum: u32, switch_cost: u32) -> Answered<()>
     ensures { (ts : List ThreadInfo) (qs ps ls ws : List ℕ) → Valid s (memory ts qs ps ls ws)
         → Done (Calls.timing quantum switch_cost) (call_answer_meant result.answer) s result.sched (memory ts qs ps ls ws) (memory ts qs ps ls ws) }
 {
     let answer = check_timing(s, quantum, switch_cost);
     match answer {
-        CallAnswer::Refused(_) => Answered { sched: s, answer },
-        CallAnswer::Taken => {
-            let mut config = s.config;
-            config.quantum = at_least_one(quantum);
-            config.switch_cost = switch_cost;
+        Err(_) => Answered { sched: s, answer },
+        Ok(()) => {
             let mut next = s;
-            next.config = config;
+            next.config = SchedConfig {
+                quantum: at_least_one(quantum),
+                switch_cost,
+                ..s.config
+            };
             Answered {
                 sched: next,
                 answer,

@@ -18,11 +18,7 @@ pub fn set_first(threads: &mut [ThreadInfo], n: usize, t: ThreadInfo)
     requires { n ≤ length threads.old }
     ensures { threads.new ≡ firsts (same_at t) n threads.old }
 {
-    let mut i = 0;
-    while i < n {
-        threads[i] = t;
-        i += 1;
-    }
+    threads[..n].fill(t);
 }
 
 // "`new` starts thread 0 running on core 0, priority 10." It writes the first record and priority, and the log; a refused call writes nothing.

@@ -8,10 +8,10 @@ ghost use Rattle.switches.specs.Entries.{answer_with};
 ghost use Rattle.tick_plan.specs.DoneWith.{DoneWith};
 
 use model::ThreadInfo;
-use state::Sched;
+use state::{Sched, unpack};
 use threads::{apply_moves, charge_all};
 use tick_plan::Ticked;
-use tick_plan::tick::{core_states, moves_of, next_tick, tick_decided, tick_threads, ticked};
+use tick_plan::tick::{next_tick, tick_decided, tick_threads};
 
 // Phase 1 charges, then now + 1; the phases decide; what they decide is written into the accounts at the new tick.
 pub fn end_tick(
@@ -28,11 +28,8 @@ pub fn end_tick(
         (memory threads.new queue.new prios.now log.new lanes.new) }
 {
     let n = tick_threads(s);
-    let cores = core_states(s);
-    charge_all(threads, n, cores);
+    charge_all(threads, n, unpack(s.states));
     let d = tick_decided(s, queue, prios, log, lanes);
-    let moves = moves_of(d);
-    let tick = next_tick(s);
-    apply_moves(threads, lanes, moves, tick);
-    ticked(d)
+    apply_moves(threads, lanes, d.moves, next_tick(s));
+    d.ticked()
 }

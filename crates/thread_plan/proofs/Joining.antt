@@ -2,6 +2,7 @@
 use Prim.Native.Nat.{ℕ, ◌<◌}
 use mathlib.Core.Path.{◌≡◌, refl, sym, ap, ap₂, ◌∙◌, subst}
 use mathlib.Core.Bool.{Bool, true, false, cond}
+use mathlib.Core.Logic.{◌⊎◌, inl, inr}
 use mathlib.Core.Option.{Option, none, some}
 use mathlib.Core.List.{List, map}
 use native.Mathlib.Omega.{arith}
@@ -14,7 +15,7 @@ use Rattle.model.specs.declared.JoinOutcome as JoinOutcomes
 use Rattle.model.specs.declared.JoinOutcome.TheVariants as JoinCases
 use Rattle.model.specs.Types.{Core, Blocked, ThreadRecord, State}
 use Rattle.model.specs.Phases.{update}
-use Rattle.model.specs.Reading.{join_meant, join_answer_meant, thread_meant}
+use Rattle.model.specs.Reading.{join_meant, thread_meant}
 use Rattle.model.specs.Accounting.{set_state}
 use Rattle.model.specs.Calls.{Call, Answer, joined, refused, JoinOutcome, Wait, Invalid, outcome, blocking, accept, refusal, join, tid_on, thread_state_of}
 use Rattle.records.specs.declared.change.Change.TheVariants as Changes
@@ -30,7 +31,6 @@ use Rattle.checks.specs.Check.{core_refusal}
 use Rattle.checks.proofs.Refusals.{join-refusal}
 use Rattle.updates.specs.Pending.{Pending}
 use Rattle.updates.proofs.Updating.{some-record, keep_same}
-use Rattle.thread_plan.specs.declared.join.JoinDecided.{JoinDecided}
 use Rattle.thread_plan.specs.Change.{with_marks}
 use Rattle.thread_plan.specs.Reads.{own_tid, known_place}
 use Rattle.thread_plan.proofs.OneRecord.{in_use, rebuilt, Changed, changed-size, map-kept, beyond}
@@ -125,16 +125,8 @@ module _ (s : Sched) (ts : List ThreadInfo) (qs ps ls ws : List ℕ) (v : Valid 
               (record { threads = refl; queue = refl; prios = refl; log = refl; lanes = refl; ticks = λ j k. refl; places = λ j k. refl }));
         }
 
-pub still-done : (m : State) (i t : ℕ) (o : JoinOutcomes.JoinOutcome) → o ≡ JoinCases.Done → blocking m i t (join_meant o) ≡ m
+-- a join that does not wait blocks nobody
+pub still : (m : State) (i t : ℕ) (o : JoinOutcomes.JoinOutcome) → (o ≡ JoinCases.Done) ⊎ (o ≡ JoinCases.Invalid) → blocking m i t (join_meant o) ≡ m
 unfolding blocking
-still-done m i t o e = ap (λ (x : JoinOutcomes.JoinOutcome). blocking m i t (join_meant x)) e
-
-pub still-invalid : (m : State) (i t : ℕ) (o : JoinOutcomes.JoinOutcome) → o ≡ JoinCases.Invalid → blocking m i t (join_meant o) ≡ m
-unfolding blocking
-still-invalid m i t o e = ap (λ (x : JoinOutcomes.JoinOutcome). blocking m i t (join_meant x)) e
-
--- what was decided, under another name
-pub join-as :
-    (c : Call) (s : Sched) (ts : List ThreadInfo) (qs ps ls ws : List ℕ) (d e : JoinDecided) → d ≡ e → Pending c (join_answer_meant e.answer) s e.sched e.place e.change ts qs qs ps ps ls ls ws ws
-    → Pending c (join_answer_meant d.answer) s d.sched d.place d.change ts qs qs ps ps ls ls ws ws
-join-as c s ts qs ps ls ws d e k h = subst (λ (x : JoinDecided). Pending c (join_answer_meant x.answer) s x.sched x.place x.change ts qs qs ps ps ls ls ws ws) (sym k) h
+still m i t o (inl e) = ap (λ (x : JoinOutcomes.JoinOutcome). blocking m i t (join_meant x)) e
+still m i t o (inr e) = ap (λ (x : JoinOutcomes.JoinOutcome). blocking m i t (join_meant x)) e

@@ -1,16 +1,16 @@
 -- `spawn`, taken.
-use Prim.Native.Nat.{ℕ, zero, suc, ◌+◌, ◌<◌, ◌≤◌, max}
-use mathlib.Core.Path.{◌≡◌, refl, sym, ap, ap₂, ◌∙◌, subst}
+use Rattle.std.specs.Prelude as Std
+use Prim.Native.Nat.{ℕ, zero, suc, ◌+◌, ◌<◌, max}
+use mathlib.Core.Path.{◌≡◌, refl, sym, ap, ap₂, ◌∙◌}
 use mathlib.Core.Option.{Option, none, some}
 use mathlib.Core.List.{List, ◌∷◌, ◌++◌, map, map-append, []}
 use native.Mathlib.Numerals.{add-one}
 use native.Mathlib.Omega.{arith}
 use lib.ListN.{length, take, get_or, get_elem?, set, length-set}
-use lib.Seq.{take-suc-set, drop-set-lt, length-take-le, get_or-take}
+use lib.Seq.{take-suc-set, drop-set-lt, length-take-le}
 use borrow.Author.Tests.{leb-false}
 use Rattle.model.specs.declared.Tid.{Tid}
 use Rattle.model.specs.declared.Tick.{Tick}
-use Rattle.model.specs.declared.OptionTid.{OptionTid}
 use Rattle.model.specs.declared.ThreadInfo.{ThreadInfo}
 use Rattle.model.specs.Types.{ThreadRecord, Spawned, State}
 use Rattle.model.specs.Phases.{update}
@@ -20,7 +20,6 @@ use Rattle.model.specs.Calls.{Answer, spawned, refused, accept, spawn, priority_
 use Rattle.model.proofs.Refusals.{check-none, check-rest}
 use Rattle.model.proofs.Placement.{queue-fits}
 use Rattle.rings.specs.declared.RingPos.{RingPos}
-use Rattle.rings.proofs.RingLaws.{element}
 use Rattle.records.specs.declared.change.Change.TheVariants as Changes
 use Rattle.records.specs.Changes.{change_meant}
 use Rattle.threads.specs.Slice.{blank, threads_in}
@@ -36,15 +35,14 @@ use Rattle.updates.specs.Pending.{Pending}
 use Rattle.thread_plan.specs.Logging.{Logged}
 use Rattle.thread_plan.specs.Reads.{or_ten, child_priority}
 use Rattle.thread_plan.specs.Change.{with_counts}
-use Rattle.thread_plan.proofs.OneRecord.{in_use, rebuilt, Changed, changed-size, beyond}
+use Rattle.thread_plan.proofs.OneRecord.{in_use, rebuilt, Changed, changed-size}
 
 ---- the child's priority
 
-pub child-known : (ps : List ℕ) (n i : ℕ) → n ≤ length ps → i < n → get_or ps i 0 ≡ or_ten (get_elem? (take n ps) i)
-child-known ps n i h l = sym (ap or_ten (element (take n ps) i 0 (subst (λ (k : ℕ). i < k) (sym (length-take-le n ps h)) l) ∙ ap (λ (x : ℕ). some x) (get_or-take n ps i 0 l)))
-
-pub child-unknown : (ps : List ℕ) (n i : ℕ) → n ≤ length ps → n ≤ i → 10 ≡ or_ten (get_elem? (take n ps) i)
-child-unknown ps n i h l = sym (ap or_ten (beyond (take n ps) i (subst (λ (k : ℕ). k ≤ i) (sym (length-take-le n ps h)) l)))
+pub child-at : (ps : List ℕ) (i : ℕ) → get_or ps i 10 ≡ or_ten (get_elem? ps i)
+child-at [] i = refl
+child-at (p ∷ ps) zero = refl
+child-at (p ∷ ps) (suc i) = child-at ps i
 
 child-of : (X : List ThreadRecord) (p : ℕ) → or_ten (get_elem? (map (λ (t : ThreadRecord). t.priority) X) p) ≡ priority_of 10 (get_elem? X p)
 unfolding priority_of
@@ -91,7 +89,7 @@ module _ (s : Sched) (ts : List ThreadInfo) (qs ps ls ws : List ℕ) (v : Valid 
   pub queue-room : s.queued < s.capacities.threads
   queue-room = let a = queue-fits M v.bounded.placed in omega (arith, a, long, waiting, spawn-room)
 
-  module _ (tid : Tid) (parent : OptionTid) (entry prio : ℕ) (now : Tick) (p : RingPos) (ls' : List ℕ) (et : tid.0 ≡ s.threads) (en : now.0 ≡ s.now.0) (ep : prio ≡ child_priority (option_tid_meant parent) (take s.threads ps))
+  module _ (tid : Tid) (parent : Std.Option Tid) (entry prio : ℕ) (now : Tick) (p : RingPos) (ls' : List ℕ) (et : tid.0 ≡ s.threads) (en : now.0 ≡ s.now.0) (ep : prio ≡ child_priority (option_tid_meant parent) (take s.threads ps))
       (g : Logged s.capacities.events (record { tick = s.now.0; tid = s.threads; kind = Spawned (option_tid_meant parent) }) ls ls' s.log p) (ts' : List ThreadInfo)
       (f : Changed s.threads (change_meant (Changes.Born tid parent entry prio now)) ts ts') where
     abbrev child : ℕ → ℕ → ThreadRecord
@@ -163,7 +161,7 @@ module _ (s : Sched) (ts : List ThreadInfo) (qs ps ls ws : List ℕ) (v : Valid 
         })
 
   pub spawn-taken :
-      (tid : Tid) (parent : OptionTid) (entry prio : ℕ) (now : Tick) (p : RingPos) (ls' : List ℕ) (a : Answer) → a ≡ spawned s.threads → tid.0 ≡ s.threads → now.0 ≡ s.now.0 → prio ≡ child_priority (option_tid_meant parent) (take s.threads ps)
+      (tid : Tid) (parent : Std.Option Tid) (entry prio : ℕ) (now : Tick) (p : RingPos) (ls' : List ℕ) (a : Answer) → a ≡ spawned s.threads → tid.0 ≡ s.threads → now.0 ≡ s.now.0 → prio ≡ child_priority (option_tid_meant parent) (take s.threads ps)
       → Logged s.capacities.events (record { tick = s.now.0; tid = s.threads; kind = Spawned (option_tid_meant parent) }) ls ls' s.log p
       → Pending (spawn (option_tid_meant parent) entry) a s (with_counts (s.threads + 1) (s.queued + 1) p s) s.threads (Changes.Born tid parent entry prio now) ts qs (set qs s.queued s.threads) ps (set ps s.threads prio) ls ls' ws ws
   spawn-taken tid parent entry prio now p ls' a e et en ep g =

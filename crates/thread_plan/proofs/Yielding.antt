@@ -1,4 +1,5 @@
 -- `yield_now`: its ladder, and where it is taken.
+use Rattle.std.specs.Prelude.{Err, Result}
 use Prim.Native.Nat.{ℕ, ◌+◌, ◌<◌, ◌≤◌, ◌^◌}
 use mathlib.Core.Path.{◌≡◌, refl, sym, ap, ap₂, ◌∙◌, subst}
 use mathlib.Core.Bool.{Bool, true, false}
@@ -9,9 +10,6 @@ use lib.Dec.{leb}
 use lib.ListN.{take, get_or, get_elem?, set}
 use borrow.Author.Tests.{leb-false, le-leb, lt-leb}
 use Rattle.settings.specs.declared.Refusal.{Refusal}
-use Rattle.settings.specs.Reading.{refusal_number}
-use Rattle.model.specs.declared.CallAnswer.{CallAnswer}
-use Rattle.model.specs.declared.CallAnswer.TheVariants as CallCases
 use Rattle.model.specs.declared.ThreadInfo.{ThreadInfo}
 use Rattle.model.specs.Types.{Core, ThreadRecord, State}
 use Rattle.model.specs.Phases.{update}
@@ -55,8 +53,8 @@ core-rest : (s : Sched) (i : ℕ) (running : Bool) (r : Option ℕ) → core_ref
 unfolding core_refusal
 core-rest s i running r = four _ _ _ _ r
 
-pub yield-stopped : (s : Sched) (i : ℕ) (r : Option ℕ) (b : CallAnswer) (x : Refusal) → b ≡ CallCases.Refused x → check_meant b ≡ core_refusal s i true none → some (refusal_number x) ≡ core_refusal s i true r
-yield-stopped s i r b x e h = sym (core-rest s i true r ∙ ap (λ (o : Option ℕ). or_rest o r) (sym h ∙ ap check_meant e))
+pub yield-stopped : (s : Sched) (i : ℕ) (r : Option ℕ) (b : Result Unit Refusal) (x : Refusal) → b ≡ Err x → check_meant b ≡ core_refusal s i true none → check_meant b ≡ core_refusal s i true r
+yield-stopped s i r b x e h = ap check_meant e ∙ sym (core-rest s i true r ∙ ap (λ (o : Option ℕ). or_rest o r) (sym h ∙ ap check_meant e))
 
 -- of a core that may yield, the limit alone decides
 pub yield_over : (s : Sched) (i y : ℕ) → core_refusal s i true none ≡ none → 4_000_000_000 ≤ y → core_refusal s i true (check 19 (leb limit_now y) none) ≡ some 19

@@ -11,10 +11,10 @@ ghost use Rattle.checks.specs.Check.{check_meant, core_refusal};
 ghost use Rattle.updates.specs.Pending.{Pending};
 ghost use Rattle.thread_plan.specs.Reads.{known_place, own_tid};
 
+use crate::Decided;
 use crate::own::own_tid;
-use crate::priority::Decided;
 use checks::{LIMIT, check_core};
-use model::{CallAnswer, CoreId, ThreadInfo};
+use model::{CoreId, ThreadInfo};
 use record_reads::read::yields_of;
 use records::change::Change;
 use settings::Refusal;
@@ -22,23 +22,18 @@ use state::Sched;
 
 // yield: 4, 11, 12, 13, 19
 #[tactic(auto, using(crate::proofs::Yielding::yield_over, crate::proofs::Yielding::yield_under))]
-fn check_yield(s: Sched, core: CoreId, yields: u64) -> CallAnswer
+fn check_yield(s: Sched, core: CoreId, yields: u64) -> Result<(), Refusal>
     requires { s.cores ≤ 8 }
     ensures { check_meant result ≡ core_refusal s core.0 true (Calls.check 19 (leb Calls.limit_now yields) none) }
 {
-    let answer = check_core(s, core, true);
-    match answer {
-        CallAnswer::Refused(refusal) => CallAnswer::Refused(refusal),
-        CallAnswer::Taken => {
-            if LIMIT <= yields {
-                return CallAnswer::Refused(Refusal::CounterLimit);
-            }
-            CallAnswer::Taken
-        }
+    check_core(s, core, true)?;
+    if LIMIT <= yields {
+        return Err(Refusal::CounterLimit);
     }
+    Ok(())
 }
 
-pub fn yield_decided(s: Sched, core: CoreId, t: ThreadInfo) -> Decided
+pub fn yield_decided(s: Sched, core: CoreId, t: ThreadInfo) -> Decided<()>
     requires { s.cores ≤ 8 }
     ensures { (ts : List Infos.ThreadInfo) (qs ps ls ws : List ℕ) → Valid s (memory ts qs ps ls ws)
         → t ≡ get_or ts (known_place s (own_tid s core.0)) blank
@@ -46,13 +41,8 @@ pub fn yield_decided(s: Sched, core: CoreId, t: ThreadInfo) -> Decided
 {
     let answer = check_yield(s, core, yields_of(t));
     match answer {
-        CallAnswer::Refused(_) => Decided {
-            sched: s,
-            answer,
-            place: 0,
-            change: Change::Keep,
-        },
-        CallAnswer::Taken => {
+        Err(_) => Decided::unchanged(s, answer),
+        Ok(()) => {
             let i = core.0 as usize;
             let own = own_tid(s, core);
             let mut next = s;

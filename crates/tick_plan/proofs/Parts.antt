@@ -1,7 +1,7 @@
 -- What each part's callees leave is what the part says.
+use Rattle.std.specs.Prelude.{Ok, Err, Result}
 use Prim.Native.Nat.{ℕ, ◌+◌, ◌*◌, ◌<◌, ◌≤◌}
 use mathlib.Core.Path.{◌≡◌, sym, ap, ◌∙◌, subst}
-use mathlib.Core.Bool.{Bool}
 use mathlib.Core.Option.{none}
 use mathlib.Core.List.{List, [], ◌++◌, map}
 use native.Mathlib.Omega.{arith}
@@ -11,11 +11,9 @@ use Rattle.settings.specs.declared.Refusal.{Refusal}
 use Rattle.settings.specs.Reading.{refusal_number}
 use Rattle.model.specs.declared.CoreState as Program
 use Rattle.model.specs.declared.CoreState.TheVariants as CoreStateCases
-use Rattle.model.specs.declared.CallAnswer.{CallAnswer}
-use Rattle.model.specs.declared.CallAnswer.TheVariants as CallCases
 use Rattle.model.specs.declared.ThreadInfo.{ThreadInfo}
 use Rattle.model.specs.declared.Tick.{Tick}
-use Rattle.model.specs.Types.{Move}
+use Rattle.model.specs.Types.{Core, Move}
 use Rattle.model.specs.Phases.{decide}
 use Rattle.model.specs.Accounting.{switch_list, takes_in}
 use Rattle.model.specs.Reading.{core_state_meant}
@@ -23,10 +21,12 @@ use Rattle.model.specs.Calls.{switched}
 use Rattle.switches.specs.Entries.{ListFor}
 use Rattle.queue.specs.Words.{decode, moves_in, NoLonger, Appended}
 use Rattle.turns.specs.Turns.{rules_of, Short}
-use Rattle.phases.specs.Cores.{pass_of, observed}
+use Rattle.turns.specs.declared.Marks.{Marks}
+use Rattle.phases.specs.Cores.{board, pass_of}
 use Rattle.rings.specs.declared.RingPos.{RingPos}
 use Rattle.rings.specs.Ring.{capacity, RingOK}
 use Rattle.rings.specs.Events.{events_in}
+use Rattle.state.specs.declared.Eight.{Eight}
 use Rattle.state.specs.declared.Sched.{Sched}
 use Rattle.state.specs.Memory.{memory}
 use Rattle.state.specs.State.{firsts, core_from, packed, states_of, log_words, Valid}
@@ -37,10 +37,10 @@ use Rattle.checks.specs.Check.{check_meant, tick_refusal}
 use Rattle.tick_plan.specs.declared.Charged.{Charged}
 use Rattle.tick_plan.specs.declared.Planned.{Planned}
 use Rattle.tick_plan.specs.declared.Written.{Written}
-use Rattle.tick_plan.specs.Plan.{tick_threads, TickPending, ChargedOf, PlannedOf, WrittenAt, WrittenOf, ticked_sched}
+use Rattle.tick_plan.specs.Plan.{tick_threads, marks_of, TickPending, ChargedOf, PlannedOf, WrittenAt, WrittenOf, ticked_sched}
 use Rattle.tick_plan.proofs.Ticking.{threads-refused, tick-pending}
 
-pub refused_none : (s : Sched) (a : CallAnswer) (x : Refusal) → a ≡ CallCases.Refused x → check_meant a ≡ tick_refusal s → 0 ≡ tick_threads s
+pub refused_none : (s : Sched) (a : Result Unit Refusal) (x : Refusal) → a ≡ Err x → check_meant a ≡ tick_refusal s → 0 ≡ tick_threads s
 refused_none s a x e h = sym (threads-refused s (refusal_number x) (sym h ∙ ap check_meant e))
 
 pub charged : (s : Sched) (ws ws' : List ℕ) (c : Charged) (cs : List Program.CoreState) → cs ≡ states_of s.states → TicksCharged s.cores cs s.ticks c.ticks
@@ -80,42 +80,44 @@ pub moves_front : (b r : List ℕ) (n : ℕ) → n ≤ length b → moves_in b n
 unfolding moves_in
 moves_front b r n l = sym (ap (map decode) (take-append-le n b r l))
 
--- what `decide` leaves, and the struct that is made of it
-module _ (s : Sched) (qs qs' ps ws b : List ℕ) (cs cs' : List Program.CoreState) (ex bl yi pr : List Bool) (queued moves : ℕ) where
-  pub planned : (p : Planned) → cs ≡ states_of s.states → states_of p.states ≡ cs' → (p.exits ≡ ex) × (p.blocks ≡ bl) × (p.yields ≡ yi) × (p.progressed ≡ pr) × (p.queued ≡ queued) × (p.moves ≡ moves)
-      → (length p.exits ≡ 8) × (length p.blocks ≡ 8) × (length p.yields ≡ 8) × (length p.progressed ≡ 8) → s.cores ≤ 8 → 80 ≤ length ws → length b ≡ length (take 80 ws) → length qs' ≡ length qs
-      → observed s.cores cs' ex bl yi pr qs' queued b moves
-      ≡ decide (rules_of s.config.policy s.config.quantum s.config.switch_cost (take s.threads ps)) (firsts (core_from cs s.exits s.blocks s.yields s.progressed) s.cores) (take s.queued qs)
-      → ((j : ℕ) → s.cores ≤ j → core_from cs' ex bl yi pr j ≡ core_from cs s.exits s.blocks s.yields s.progressed j)
-      → NoLonger s.queued queued qs qs' → Appended (10 * s.cores) 0 moves (take 80 ws) b
-      → (s.states ≡ packed (states_of s.states) → p.states ≡ packed (states_of p.states)) → PlannedOf s qs qs' ps ws (b ++ drop 80 ws) p
+-- what `decide_board` leaves in the front of the lanes
+module _ (s : Sched) (qs qs' ps ws a b : List ℕ) (cs cs' : List Program.CoreState) (e₁ : Eight) (mo mk : Marks) (queued moves : ℕ) where
+  pub planned : (p : Planned) (qs₂ b₂ z : List ℕ) → qs₂ ≡ qs' → b₂ ≡ b → z ≡ drop 80 ws → a ≡ take 80 ws → cs ≡ states_of s.states → mo ≡ marks_of s → states_of e₁ ≡ cs' → (p.states ≡ e₁) × (p.marks ≡ mk) × (p.queued ≡ queued) × (p.moves ≡ moves)
+      → (length p.marks.exits ≡ 8) × (length p.marks.blocks ≡ 8) × (length p.marks.yields ≡ 8) × (length p.marks.progressed ≡ 8) → s.cores ≤ 8 → 80 ≤ length ws → length b ≡ length a → length qs' ≡ length qs
+      → pass_of s.cores (board cs' mk) (take queued qs') (moves_in b moves)
+      ≡ decide (rules_of s.config.policy s.config.quantum s.config.switch_cost (take s.threads ps)) (firsts (board cs mo) s.cores) (take s.queued qs)
+      → ((j : ℕ) → s.cores ≤ j → board cs' mk j ≡ board cs mo j)
+      → NoLonger s.queued queued qs qs' → Appended (10 * s.cores) 0 moves a b
+      → (s.states ≡ packed (states_of s.states) → e₁ ≡ packed (states_of e₁)) → PlannedOf s qs qs₂ ps ws (b₂ ++ z) p
   unfolding pass_of
-  planned p e e' m m8 n8 l80 lb lq d u q a wo =
-      let k : length b ≡ 80 = lb ∙ length-take-le 80 ws l80 in
-      let few : moves ≤ 80 = omega (arith, a.fits) in
-      let same : (j : ℕ) → core_from (states_of p.states) p.exits p.blocks p.yields p.progressed j ≡ core_from cs' ex bl yi pr j = λ j. rw (e', m.0, m.1, m.2, m.3) in
-      record {
+  planned p qs₂ b₂ z eq eb ez ea e em e' m m8 n8 l80 lb lq d u q f wo =
+      let lt : length b ≡ length (take 80 ws) = lb ∙ ap length ea in
+      let k : length b ≡ 80 = lt ∙ length-take-le 80 ws l80 in
+      let board-same : board cs mo ≡ core_from (states_of s.states) s.exits s.blocks s.yields s.progressed = ap (λ (x : List Program.CoreState). board x mo) e ∙ ap (board (states_of s.states)) em in
+      let few : moves ≤ 80 = omega (arith, f.fits) in
+      rw (eq, eb, ez)
+      (record {
         decided =
-            rw (m.4, m.5, e', m.0, m.1, m.2, m.3)
-            (ap (λ (x : List Move). pass_of s.cores (core_from cs' ex bl yi pr) (take queued qs') x) (sym (moves_front b (drop 80 ws) moves (omega (arith, few, k))))
+            rw (m.0, m.1, m.2, m.3, e')
+            (ap (λ (x : List Move). pass_of s.cores (board cs' mk) (take queued qs') x) (sym (moves_front b (drop 80 ws) moves (omega (arith, few, k))))
             ∙ (d
-            ∙ ap (λ (c : List Program.CoreState). decide (rules_of s.config.policy s.config.quantum s.config.switch_cost (take s.threads ps)) (firsts (core_from c s.exits s.blocks s.yields s.progressed) s.cores) (take s.queued qs)) e));
-        unused = λ j l. same j ∙ u j l ∙ ap (λ (c : List Program.CoreState). core_from c s.exits s.blocks s.yields s.progressed j) e;
-        queue = rw m.4 q;
-        few = rw m.5 few;
+            ∙ ap (λ (g : ℕ → Core). decide (rules_of s.config.policy s.config.quantum s.config.switch_cost (take s.threads ps)) (firsts g s.cores) (take s.queued qs)) board-same));
+        unused = λ j l. rw (m.0, m.1, e') (u j l ∙ ap (λ (g : ℕ → Core). g j) board-same);
+        queue = rw m.2 q;
+        few = rw m.3 few;
         behind = drop_at b (drop 80 ws) 80 k;
         long_queue = lq;
-        long_lanes = length_front ws b 80 lb;
+        long_lanes = length_front ws b 80 lt;
         exits = m8.0;
         blocks = m8.1;
         yields = m8.2;
         progressed = m8.3;
-        words = wo;
-      }
+        words = λ h. rw m.0 (wo h);
+      })
 
 -- all parts of a tick end that is taken
 pub pending-at : (s : Sched) (ts : List ThreadInfo) (qs ps ls ws : List ℕ) → Valid s (memory ts qs ps ls ws) → tick_refusal s ≡ none → (t : Tick) (c : Charged) (p : Planned) (w : Written) (s' : Sched) (qs' ls' ws₁ ws' : List ℕ) → s' ≡ ticked_sched s t c p w → t.0 ≡ s.now.0 + 1
-    → ChargedOf s ws ws₁ c → PlannedOf s qs qs' ps ws₁ ws' p → WrittenOf s t.0 (moves_in ws' p.moves) ls ls' w → (a : CallAnswer) → a ≡ CallCases.Taken
+    → ChargedOf s ws ws₁ c → PlannedOf s qs qs' ps ws₁ ws' p → WrittenOf s t.0 (moves_in ws' p.moves) ls ls' w → (a : Result Unit Refusal) → a ≡ Ok tt
     → TickPending a w.switches s s' p.moves ts qs qs' ps ls ls' ws ws'
 pending-at s ts qs ps ls ws v h t c p w s' qs' ls' ws₁ ws' e et C P R a ea =
     subst (λ (x : Sched). TickPending a w.switches s x p.moves ts qs qs' ps ls ls' ws ws') (sym e)

@@ -1,4 +1,6 @@
 -- The parts of a tick end that switches nothing.
+use Rattle.std.specs.Prelude.{Ok, Result}
+use Rattle.settings.specs.declared.Refusal.{Refusal}
 use Prim.Native.Nat.{ℕ, ◌+◌, ◌<◌, ◌≤◌}
 use mathlib.Core.Path.{◌≡◌, refl, sym, ap, ◌∙◌, subst}
 use mathlib.Core.Bool.{true}
@@ -7,8 +9,6 @@ use mathlib.Core.List.{List, []}
 use native.Mathlib.Omega.{arith}
 use borrow.Author.Tests.{lt-leb, le-leb}
 use lib.ListN.{length, take}
-use Rattle.model.specs.declared.CallAnswer.{CallAnswer}
-use Rattle.model.specs.declared.CallAnswer.TheVariants as CallCases
 use Rattle.model.specs.declared.ThreadInfo.{ThreadInfo}
 use Rattle.model.specs.declared.Tick.{Tick}
 use Rattle.model.specs.Types.{Core, Move}
@@ -32,7 +32,7 @@ use Rattle.checks.specs.Check.{tick_refusal}
 use Rattle.tick_plan.specs.declared.Charged.{Charged}
 use Rattle.tick_plan.specs.declared.Planned.{Planned}
 use Rattle.tick_plan.specs.declared.Written.{Written}
-use Rattle.tick_plan.specs.Plan.{TickPending, ChargedOf, PlannedOf, WrittenOf, ticked_sched}
+use Rattle.tick_plan.specs.Plan.{marks_of, TickPending, ChargedOf, PlannedOf, WrittenOf, ticked_sched}
 use Rattle.tick_plan.proofs.Reading.{map-firsts}
 use Rattle.tick_plan.proofs.Ticking.{plan-fits}
 use Rattle.tick_plan.proofs.Parts.{pending-at}
@@ -63,25 +63,25 @@ module _ (s : Sched) (h : is_quiet s ≡ true) (p : Planned) (st : (j : ℕ) →
   all_grown = firsts_same next (λ j. ticked (own j)) s.cores grown ∙ sym (map-firsts ticked own s.cores)
 
   pub quiet-planned :
-      p.exits ≡ s.exits → p.blocks ≡ s.blocks → p.yields ≡ s.yields → p.progressed ≡ s.progressed → p.queued ≡ s.queued → p.moves ≡ 0
-      → length s.exits ≡ 8 → length s.blocks ≡ 8 → length s.yields ≡ 8 → length s.progressed ≡ 8
+      p.marks ≡ marks_of s → p.queued ≡ s.queued → p.moves ≡ 0
+      → (length p.marks.exits ≡ 8) × (length p.marks.blocks ≡ 8) × (length p.marks.yields ≡ 8) × (length p.marks.progressed ≡ 8)
       → (s.states ≡ packed (states_of s.states) → p.states ≡ packed (states_of p.states)) → (qs ps ws : List ℕ) → PlannedOf s qs qs ps ws ws p
   unfolding pass_of
-  quiet-planned ex bl yi pr qu mo le lb ly lp wo qs ps ws =
+  quiet-planned em qu mo m8 wo qs ps ws =
       record {
         decided =
-            rw (ex, bl, yi, pr, qu, mo, no-moves ws)
+            rw (em, qu, mo, no-moves ws)
             (ap (λ (cs : List Core). still cs (take s.queued qs)) all_grown ∙ sym (decide-quiet s h (take s.threads ps) (take s.queued qs)));
-        unused = rw (ex, bl, yi, pr) behind;
+        unused = rw em behind;
         queue = rw qu (no-longer-same s.queued qs);
         few = rw mo (omega arith);
         behind = refl;
         long_queue = refl;
         long_lanes = refl;
-        exits = rw ex le;
-        blocks = rw bl lb;
-        yields = rw yi ly;
-        progressed = rw pr lp;
+        exits = m8.0;
+        blocks = m8.1;
+        yields = m8.2;
+        progressed = m8.3;
         words = wo;
       }
 
@@ -102,7 +102,7 @@ quiet-roomy s ts qs ps ls ws v h = (plan-fits s ts qs ps ls ws v h ws refl).shor
 pub quiet-pending :
     (s : Sched) (t : Tick) (c : Charged) (p : Planned) (w : Written) (s' : Sched) → s' ≡ ticked_sched s t c p w → t.0 ≡ s.now.0 + 1 → p.moves ≡ 0
     → ((qs ps ws : List ℕ) → PlannedOf s qs qs ps ws ws p) → ((now : ℕ) (ls : List ℕ) → RingOK (log_words s.capacities.events ls) s.log → WrittenOf s now [] ls ls w)
-    → (a : CallAnswer) (ts : List ThreadInfo) (qs ps ls ws ws' : List ℕ) → Valid s (memory ts qs ps ls ws) → tick_refusal s ≡ none → ChargedOf s ws ws' c → a ≡ CallCases.Taken
+    → (a : Result Unit Refusal) (ts : List ThreadInfo) (qs ps ls ws ws' : List ℕ) → Valid s (memory ts qs ps ls ws) → tick_refusal s ≡ none → ChargedOf s ws ws' c → a ≡ Ok tt
     → TickPending a w.switches s s' p.moves ts qs qs ps ls ls ws ws'
 quiet-pending s t c p w s' es et mo P R a ts qs ps ls ws ws' v h C e =
     let none_left : [] ≡ moves_in ws' p.moves = rw mo (sym (no-moves ws')) in

@@ -1,4 +1,5 @@
 -- A tick end, from what its parts leave to its promise.
+use Rattle.std.specs.Prelude.{Ok, Err, Result}
 use Prim.Native.Nat.{ℕ, ◌+◌, ◌*◌, ◌<◌, ◌≤◌, ◌^◌, max}
 use mathlib.Core.Path.{◌≡◌, refl, sym, ap, ◌∙◌, subst, fun_ext}
 use mathlib.Core.Bool.{false}
@@ -10,8 +11,6 @@ use lib.ListN.{length, take, drop, get_or, get_elem?}
 use Rattle.settings.specs.declared.Refusal.{Refusal}
 use Rattle.settings.specs.Reading.{refusal_number}
 use Rattle.model.specs.Invariants.{All, ThreadIn, CoreStateIn}
-use Rattle.model.specs.declared.CallAnswer.{CallAnswer}
-use Rattle.model.specs.declared.CallAnswer.TheVariants as CallCases
 use Rattle.model.specs.declared.CoreState.TheVariants as CoreStateCases
 use Rattle.model.specs.declared.ThreadInfo.{ThreadInfo}
 use Rattle.model.specs.declared.Tick.{Tick}
@@ -27,7 +26,7 @@ use Rattle.switches.specs.declared.SwitchList.{SwitchList}
 use Rattle.switches.specs.Entries.{answer_with, ListFor}
 use Rattle.switches.proofs.Words.{list-says, list-taken, list-refused}
 use Rattle.turns.specs.Turns.{rules_of}
-use Rattle.phases.specs.Cores.{pass_of, observed}
+use Rattle.phases.specs.Cores.{board, pass_of}
 use Rattle.charges.specs.Charging.{cores_meant}
 use Rattle.record_moves.specs.Moves.{moved_threads, MoveRoom}
 use Rattle.record_moves.proofs.Moving.{moved-threads}
@@ -104,7 +103,7 @@ module _ (s : Sched) (ts : List ThreadInfo) (qs ps ls ws : List ℕ) (v : Valid 
 
   ---- refused: no record is charged, and there are no moves
 
-  pub pending-refused : (a : CallAnswer) (x : Refusal) (l : SwitchList) (zs : List ℕ) → ListFor (switched (switch_list [] (moves_in zs 0))) l → a ≡ CallCases.Refused x → check_meant a ≡ tick_refusal s
+  pub pending-refused : (a : Result Unit Refusal) (x : Refusal) (l : SwitchList) (zs : List ℕ) → ListFor (switched (switch_list [] (moves_in zs 0))) l → a ≡ Err x → check_meant a ≡ tick_refusal s
       → TickPending a l s s 0 ts qs qs ps ls ls ws ws
   pending-refused a x l zs none-listed e h =
       record {
@@ -112,7 +111,7 @@ module _ (s : Sched) (ts : List ThreadInfo) (qs ps ls ws : List ℕ) (v : Valid 
         done = λ ts₁ ts' f g.
             let same : ts' ≡ ts = (g 0 (λ k l. absurd (omega arith))).rest ∙ uncharged ts₁ f in
             subst (λ (ys : List ThreadInfo). DoneWith tick (answer_with a l) l s s (memory ts qs ps ls ws) (memory ys qs ps ls ws)) (sym same)
-            (subst (λ (b : CallAnswer). DoneWith tick (answer_with b l) l s s (memory ts qs ps ls ws) (memory ts qs ps ls ws)) (sym e)
+            (subst (λ (b : Result Unit Refusal). DoneWith tick (answer_with b l) l s s (memory ts qs ps ls ws) (memory ts qs ps ls ws)) (sym e)
             (record { done = done_refused tick s ts qs ps ls ws v (refusal_number x) (tick-refusal s ts qs ls ws ∙ number); list = list-refused zs l none-listed (refusal_number x) }));
       }
     where
@@ -181,7 +180,7 @@ module _ (s : Sched) (ts : List ThreadInfo) (qs ps ls ws : List ℕ) (v : Valid 
       long-lanes : length ws' ≡ length ws
       long-lanes = P.long_lanes ∙ C.lanes.size
 
-      pass : observed s.cores (states_of p.states) p.exits p.blocks p.yields p.progressed qs' p.queued ws' p.moves ≡ decide (rules M) M.cores M.queue
+      pass : pass_of s.cores (board (states_of p.states) p.marks) (take p.queued qs') ms ≡ decide (rules M) M.cores M.queue
       unfolding meant_at
       pass = P.decided ∙ ap (λ (k : Rules). decide k M.cores M.queue) (sym rules-same)
 
@@ -286,7 +285,7 @@ module _ (s : Sched) (ts : List ThreadInfo) (qs ps ls ws : List ℕ) (v : Valid 
                 segments = λ i l. rw (lane-same s.capacities.segments i ws₁ ws' P.behind) (C.lanes.lanes i l).ok;
               }
 
-          marks : Marks s.cores (states_of p.states) p.exits p.blocks p.yields p.progressed
+          marks : Marks s.cores (states_of p.states) p.marks.exits p.marks.blocks p.marks.yields p.marks.progressed
           marks =
               record {
                 exits = P.exits;
@@ -309,14 +308,14 @@ module _ (s : Sched) (ts : List ThreadInfo) (qs ps ls ws : List ℕ) (v : Valid 
                 places = C.lanes.rest;
               }
 
-          pub tick-done : (a : CallAnswer) → a ≡ CallCases.Taken → Done tick (answer_with a w.switches) s s' (memory ts qs ps ls ws) (memory ts' qs' ps ls' ws')
+          pub tick-done : (a : Result Unit Refusal) → a ≡ Ok tt → Done tick (answer_with a w.switches) s s' (memory ts qs ps ls ws) (memory ts' qs' ps ls' ws')
           unfolding accept pass_of meant_at threads_in
           tick-done a e =
-              let is : answer_with a w.switches ≡ answer_with CallCases.Taken w.switches = ap (λ (b : CallAnswer). answer_with b w.switches) e in
+              let is : answer_with a w.switches ≡ answer_with (Ok tt) w.switches = ap (λ (b : Result Unit Refusal). answer_with b w.switches) e in
               done-taken tick s ts qs ps ls ws v _ s' ts' qs' ps ls' ws' (tick-refusal s ts qs ls ws ∙ h) state-same
               (is ∙ ap switched (list-says _ _ R.list) ∙ ap (λ (x : Pass). switched (switch_list [] x.moves)) pass)
               (λ n z. let y : ◌≡◌ {A = ℕ} 0 1 = cc in omega arith)
               sizes rings marks (P.words v.words) C.eight_ticks priorities-kept frame
 
-      pub tick-pending : (a : CallAnswer) → a ≡ CallCases.Taken → TickPending a w.switches s s' p.moves ts qs qs' ps ls ls' ws ws'
+      pub tick-pending : (a : Result Unit Refusal) → a ≡ Ok tt → TickPending a w.switches s s' p.moves ts qs qs' ps ls ls' ws ws'
       tick-pending a e = record { fits = λ ts₁ f. moves-fit ts₁ f; done = λ ts₁ ts' f g. record { done = tick-done ts₁ f ts' g a e; list = list-taken _ _ R.list a e } }

@@ -1,5 +1,6 @@
 -- What the parts of a tick end leave, and what is still to be done to the thread records.
-use Rattle.std.specs.Prelude.{ℕ, ◌+◌, ◌*◌, ◌<◌, ◌≤◌, ◌≡◌, List, [], length, take, drop, get_or}
+use Rattle.settings.specs.declared.Refusal.{Refusal}
+use Rattle.std.specs.Prelude.{ℕ, ◌+◌, ◌*◌, ◌<◌, ◌≤◌, ◌≡◌, List, [], length, take, drop, get_or, Result}
 use Rattle.std.proofs.Math.Option.{Option, none, some}
 use Rattle.model.specs.declared.CoreState.TheVariants as CoreStateCases
 use Rattle.model.specs.declared.ThreadInfo.{ThreadInfo}
@@ -7,12 +8,12 @@ use Rattle.model.specs.declared.Tick.{Tick}
 use Rattle.model.specs.Types.{Move}
 use Rattle.model.specs.Phases.{decide}
 use Rattle.model.specs.Accounting.{charge_threads, switch_list, takes_in}
-use Rattle.model.specs.declared.CallAnswer.{CallAnswer}
 use Rattle.model.specs.Calls.{tick, switched}
 use Rattle.model.specs.Reading.{core_state_meant}
 use Rattle.queue.specs.Words.{moves_in, NoLonger}
 use Rattle.turns.specs.Turns.{rules_of, Short}
-use Rattle.phases.specs.Cores.{observed}
+use Rattle.turns.specs.declared.Marks.{Marks}
+use Rattle.phases.specs.Cores.{board, pass_of}
 use Rattle.switches.specs.declared.SwitchList.{SwitchList}
 use Rattle.switches.specs.Entries.{answer_with, ListFor}
 use Rattle.rings.specs.declared.RingPos.{RingPos}
@@ -51,7 +52,7 @@ abbrev pub MovedRecords : (now : ℕ) (ws : List ℕ) (count : ℕ) (ts₁ ts' :
 MovedRecords now ws count ts₁ ts' = (n : ℕ) → ((k : ℕ) → k < count → tid_at ws k < n) → Front n (moved_threads now (moves_in ws count) (threads_in ts₁ n)) ts₁ ts'
 
 -- a tick end that is done once the records are charged and the moves applied to them
-pub record TickPending (a : CallAnswer) (l : SwitchList) (s s' : Sched) (count : ℕ) (ts : List ThreadInfo) (qs qs' ps ls ls' ws ws' : List ℕ) : Type 0 where
+pub record TickPending (a : Result Unit Refusal) (l : SwitchList) (s s' : Sched) (count : ℕ) (ts : List ThreadInfo) (qs qs' ps ls ls' ws ws' : List ℕ) : Type 0 where
   pub fits : (ts₁ : List ThreadInfo) → ChargedRecords s ts ts₁ → MovesFit ts₁ ws' count
   pub done : (ts₁ ts' : List ThreadInfo) → ChargedRecords s ts ts₁ → MovedRecords (s.now.0 + 1) ws' count ts₁ ts' → DoneWith tick (answer_with a l) l s s' (memory ts qs ps ls ws) (memory ts' qs' ps ls' ws')
 
@@ -75,6 +76,9 @@ pub record ChargedOf (s : Sched) (ws ws' : List ℕ) (c : Charged) : Type 0 wher
 
 ---- deciding
 
+abbrev pub marks_of : Sched → Marks
+marks_of s = record { exits = s.exits; blocks = s.blocks; yields = s.yields; progressed = s.progressed }
+
 pub record PlanFits (s : Sched) (qs ps ws : List ℕ) : Type 0 where
   pub cores : s.cores ≤ 8
   pub queued : s.queued ≤ length qs
@@ -84,21 +88,21 @@ pub record PlanFits (s : Sched) (qs ps ws : List ℕ) : Type 0 where
 
 pub record PlannedOf (s : Sched) (qs qs' ps ws ws' : List ℕ) (p : Planned) : Type 0 where
   pub decided :
-      observed s.cores (states_of p.states) p.exits p.blocks p.yields p.progressed qs' p.queued ws' p.moves
+      pass_of s.cores (board (states_of p.states) p.marks) (take p.queued qs') (moves_in ws' p.moves)
       ≡ decide (rules_of s.config.policy s.config.quantum s.config.switch_cost (take s.threads ps))
       (firsts (core_from (states_of s.states) s.exits s.blocks s.yields s.progressed) s.cores) (take s.queued qs)
   pub unused :
       (j : ℕ) → s.cores ≤ j
-      → core_from (states_of p.states) p.exits p.blocks p.yields p.progressed j ≡ core_from (states_of s.states) s.exits s.blocks s.yields s.progressed j
+      → board (states_of p.states) p.marks j ≡ core_from (states_of s.states) s.exits s.blocks s.yields s.progressed j
   pub queue : NoLonger s.queued p.queued qs qs'
   pub few : p.moves ≤ move_room
   pub behind : drop move_room ws' ≡ drop move_room ws
   pub long_queue : length qs' ≡ length qs
   pub long_lanes : length ws' ≡ length ws
-  pub exits : length p.exits ≡ 8
-  pub blocks : length p.blocks ≡ 8
-  pub yields : length p.yields ≡ 8
-  pub progressed : length p.progressed ≡ 8
+  pub exits : length p.marks.exits ≡ 8
+  pub blocks : length p.marks.blocks ≡ 8
+  pub yields : length p.marks.yields ≡ 8
+  pub progressed : length p.marks.progressed ≡ 8
   pub words : s.states ≡ packed (states_of s.states) → p.states ≡ packed (states_of p.states)
 
 ---- writing
@@ -129,20 +133,15 @@ WrittenOf s = WrittenAt s.capacities.events s.log
 
 abbrev pub ticked_sched : Sched → Tick → Charged → Planned → Written → Sched
 ticked_sched s t c p w =
-    record {
-      config = s.config;
-      capacities = s.capacities;
-      cores = s.cores;
-      threads = s.threads;
+    record s {
       queued = p.queued;
       now = t;
       context_switches = s.context_switches + w.takes;
-      closed = s.closed;
       states = p.states;
-      exits = p.exits;
-      blocks = p.blocks;
-      yields = p.yields;
-      progressed = p.progressed;
+      exits = p.marks.exits;
+      blocks = p.marks.blocks;
+      yields = p.marks.yields;
+      progressed = p.marks.progressed;
       ticks = c.ticks;
       log = w.log;
       lanes = c.lanes;

@@ -6,10 +6,15 @@
 mod one;
 pub mod tick;
 
-use model::{CallAnswer, CoreTicks};
+ghost use Rattle.std.specs.Prelude.{◌≡◌, length};
+ghost use Rattle.tick_plan.specs.Plan.{marks_of};
+
+use model::CoreTicks;
 use rings::RingPos;
+use settings::Refusal;
 use state::{Eight, Sched};
 use switches::SwitchList;
+use turns::Marks;
 
 // What charging a tick leaves: the cores' counters, and where their timelines stand.
 #[derive(Clone, Copy)]
@@ -22,10 +27,7 @@ pub struct Charged {
 #[derive(Clone, Copy)]
 pub struct Planned {
     pub states: Eight,
-    pub exits: [bool; 8],
-    pub blocks: [bool; 8],
-    pub yields: [bool; 8],
-    pub progressed: [bool; 8],
+    pub marks: Marks,
     pub queued: usize,
     pub moves: usize,
 }
@@ -42,7 +44,7 @@ pub struct Written {
 #[derive(Clone, Copy)]
 pub struct Decided {
     pub sched: Sched,
-    pub answer: CallAnswer,
+    pub answer: Result<(), Refusal>,
     pub switches: SwitchList,
     pub moves: usize,
 }
@@ -51,6 +53,53 @@ pub struct Decided {
 #[derive(Clone, Copy)]
 pub struct Ticked {
     pub sched: Sched,
-    pub answer: CallAnswer,
+    pub answer: Result<(), Refusal>,
     pub switches: SwitchList,
+}
+
+// The marks of a state.
+pub fn marks_of(s: Sched) -> Marks
+    ensures { result ≡ marks_of s }
+{
+    let Sched {
+        exits,
+        blocks,
+        yields,
+        progressed,
+        ..
+    } = s;
+    Marks {
+        exits,
+        blocks,
+        yields,
+        progressed,
+    }
+}
+
+impl Planned {
+    // Eight marks of each kind: a call that is lent `Marks` does not say so of what it leaves.
+    pub fn new(states: Eight, marks: Marks, queued: usize, moves: usize) -> Planned
+        ensures parts { (result.states ≡ states) × (result.marks ≡ marks) × (result.queued ≡ queued) × (result.moves ≡ moves) }
+        ensures eight { (length result.marks.exits ≡ 8) × (length result.marks.blocks ≡ 8) × (length result.marks.yields ≡ 8) × (length result.marks.progressed ≡ 8) }
+    {
+        Planned {
+            states,
+            marks,
+            queued,
+            moves,
+        }
+    }
+}
+
+impl Decided {
+    // What is left of it once its moves are applied.
+    pub fn ticked(self) -> Ticked
+        ensures { (result.sched ≡ self.sched) × (result.answer ≡ self.answer) × (result.switches ≡ self.switches) }
+    {
+        Ticked {
+            sched: self.sched,
+            answer: self.answer,
+            switches: self.switches,
+        }
+    }
 }

@@ -2,7 +2,6 @@
 ghost use Rattle.std.specs.Prelude.{◌≡◌, true, List, [], ℕ, ◌+◌, ◌<◌, ◌≤◌, ◌^◌, length, get_or};
 ghost use Rattle.std.proofs.Math.Option.{none};
 ghost use Rattle.model.specs.declared.ThreadInfo.{ThreadInfo};
-ghost use Rattle.model.specs.declared.CallAnswer.TheVariants as CallCases;
 ghost use Rattle.queue.specs.Words.{moves_in};
 ghost use Rattle.state.specs.Memory.{memory};
 ghost use Rattle.state.specs.State.{packed, states_of, no_ticks, no_pos, lane_start, lane_words, log_words, Valid};
@@ -14,34 +13,29 @@ ghost use Rattle.checks.specs.Check.{tick_refusal};
 ghost use Rattle.tick_plan.specs.Plan.{tick_threads, ticked_sched, ChargeFits, ChargedOf, PlanFits, PlannedOf, WriteFitsAt, WriteFits, WrittenAt, WrittenOf, TickPending};
 
 use crate::one::{charge_one, is_single, plan_one};
-use crate::{Charged, Decided, Planned, Ticked, Written};
+use crate::{Charged, Decided, Planned, Written, marks_of};
 use accounts::counters::{charge_ticks, count_takes};
 use accounts::lanes::charge_lanes;
 use accounts::log::log_moves;
 use checks::check_tick;
-use decide::tick::decide;
-use model::{CallAnswer, CoreState, CoreTicks, Tick};
+use decide::tick::decide_board;
+use model::{CoreState, CoreTicks, Tick};
+use queue::moves::Moves;
+use queue::ready::ReadyQueue;
 use quiet::{is_quiet, sliced_states};
 use rings::RingPos;
 use state::{Sched, pack, unpack};
 use switches::switch_list;
+use turns::{Marks, Rules};
 
 // The threads that the call charges: none where it is refused.
 pub fn tick_threads(s: Sched) -> usize
     ensures { result ≡ tick_threads s }
 {
-    let answer = check_tick(s);
-    match answer {
-        CallAnswer::Refused(_) => 0,
-        CallAnswer::Taken => s.threads,
+    match check_tick(s) {
+        Err(_) => 0,
+        Ok(()) => s.threads,
     }
-}
-
-pub fn core_states(s: Sched) -> [CoreState; 8]
-    ensures { result ≡ states_of s.states }
-{
-    let states = s.states;
-    unpack(states)
 }
 
 // The tick at which the moves are written.
@@ -49,27 +43,7 @@ pub fn next_tick(s: Sched) -> Tick
     requires { s.now.0 + 1 < 2 ^ 64 }
     ensures { result.0 ≡ s.now.0 + 1 }
 {
-    let now = s.now;
-    Tick(now.0 + 1)
-}
-
-pub fn moves_of(d: Decided) -> usize
-    ensures { result ≡ d.moves }
-{
-    d.moves
-}
-
-pub fn ticked(d: Decided) -> Ticked
-    ensures { (result.sched ≡ d.sched) × (result.answer ≡ d.answer) × (result.switches ≡ d.switches) }
-{
-    let sched = d.sched;
-    let answer = d.answer;
-    let switches = d.switches;
-    Ticked {
-        sched,
-        answer,
-        switches,
-    }
+    Tick(s.now.0 + 1)
 }
 
 // The first n cores' counters and timelines. It takes the parts of the state that it needs: a state that is passed whole is stored whole first.
@@ -99,12 +73,16 @@ pub fn charge(s: Sched, lanes: &mut [u64]) -> Charged
     requires { ChargeFits s lanes.old }
     ensures { ChargedOf s lanes.old lanes.new result }
 {
-    let states = core_states(s);
-    let old = s.ticks;
-    let pos = s.lanes;
-    let capacities = s.capacities;
-    let tick = s.now;
-    charge_each(states, old, pos, s.cores, capacities.segments, tick, lanes)
+    let states = unpack(s.states);
+    charge_each(
+        states,
+        s.ticks,
+        s.lanes,
+        s.cores,
+        s.capacities.segments,
+        s.now,
+        lanes,
+    )
 }
 
 // The same with a test for one core. It does not call `charge`, which takes the state whole.
@@ -112,78 +90,45 @@ fn charge_tick(s: Sched, lanes: &mut [u64]) -> Charged
     requires { ChargeFits s lanes.old }
     ensures { ChargedOf s lanes.old lanes.new result }
 {
-    let n = s.cores;
-    if n == 1 {
+    if s.cores == 1 {
         return charge_one(s, lanes);
     }
-    let states = core_states(s);
-    let old = s.ticks;
-    let pos = s.lanes;
-    let capacities = s.capacities;
-    let tick = s.now;
-    charge_each(states, old, pos, n, capacities.segments, tick, lanes)
-}
-
-// What was decided, as one value.
-pub fn planned(
-    next: [CoreState; 8],
-    exits: [bool; 8],
-    blocks: [bool; 8],
-    yields: [bool; 8],
-    progressed: [bool; 8],
-    queued: usize,
-    moves: usize,
-) -> Planned
-    ensures states { states_of result.states ≡ next }
-    ensures marks { (result.exits ≡ exits) × (result.blocks ≡ blocks) × (result.yields ≡ yields) × (result.progressed ≡ progressed)
-        × (result.queued ≡ queued) × (result.moves ≡ moves) }
-    ensures eight { (length result.exits ≡ 8) × (length result.blocks ≡ 8) × (length result.yields ≡ 8) × (length result.progressed ≡ 8) }
-    ensures words { result.states ≡ packed (states_of result.states) }
-{
-    let states = pack(next);
-    Planned {
+    let states = unpack(s.states);
+    charge_each(
         states,
-        exits,
-        blocks,
-        yields,
-        progressed,
-        queued,
-        moves,
-    }
+        s.ticks,
+        s.lanes,
+        s.cores,
+        s.capacities.segments,
+        s.now,
+        lanes,
+    )
 }
 
-// The six phases, on copies of the marks; the moves go to the first 80 words of the lanes.
+// The six phases; the moves go to the first 80 words of the lanes.
 fn plan(s: Sched, queue: &mut [u32], prios: &[u32], lanes: &mut [u64]) -> Planned
     requires { PlanFits s queue.old prios.now lanes.old }
     ensures { PlannedOf s queue.old queue.new prios.now lanes.old lanes.new result }
 {
-    let states = core_states(s);
-    let config = s.config;
-    let policy = config.policy;
-    let threads = s.threads;
-    let mut exits = s.exits;
-    let mut blocks = s.blocks;
-    let mut yields = s.yields;
-    let mut progressed = s.progressed;
-    let mut queued = s.queued;
-    let mut moves: usize = 0;
-    let next = decide(
-        states,
-        s.cores,
-        policy,
-        config.quantum,
-        config.switch_cost,
-        &prios[..threads],
-        &mut exits,
-        &mut blocks,
-        &mut yields,
-        &mut progressed,
-        queue,
-        &mut queued,
-        &mut lanes[..80],
-        &mut moves,
-    );
-    planned(next, exits, blocks, yields, progressed, queued, moves)
+    let rules = Rules {
+        policy: s.config.policy,
+        quantum: s.config.quantum,
+        cost: s.config.switch_cost,
+        prios: &prios[..s.threads],
+    };
+    let mut marks = marks_of(s);
+    let mut ready = ReadyQueue {
+        words: queue,
+        len: s.queued,
+    };
+    let (front, _) = lanes.split_at_mut(80);
+    let mut moves = Moves {
+        words: front,
+        count: 0,
+    };
+    let states = unpack(s.states);
+    let next = decide_board(states, s.cores, &rules, &mut marks, &mut ready, &mut moves);
+    Planned::new(pack(next), marks, ready.len, moves.count)
 }
 
 // The same, with one core by itself.
@@ -209,10 +154,9 @@ fn write_at(
     requires { WriteFitsAt events pos log.old lanes.now moves tick.0 }
     ensures { WrittenAt events pos tick.0 (moves_in lanes.now moves) log.old log.new result }
 {
-    let words = 2 * events;
     let takes = count_takes(lanes, moves);
     let switches = switch_list(lanes, moves);
-    let log = log_moves(&mut log[..words], pos, lanes, moves, tick);
+    let log = log_moves(&mut log[..2 * events], pos, lanes, moves, tick);
     Written {
         log,
         takes,
@@ -225,9 +169,7 @@ pub fn write(s: Sched, log: &mut [u64], lanes: &[u64], moves: usize, tick: Tick)
     requires { WriteFits s log.old lanes.now moves tick.0 }
     ensures { WrittenOf s tick.0 (moves_in lanes.now moves) log.old log.new result }
 {
-    let pos = s.log;
-    let capacities = s.capacities;
-    write_at(pos, capacities.events, log, lanes, moves, tick)
+    write_at(s.log, s.capacities.events, log, lanes, moves, tick)
 }
 
 // The state after a tick end.
@@ -235,33 +177,32 @@ fn after_tick(s: Sched, tick: Tick, c: Charged, p: Planned, w: Written) -> Sched
     requires { s.context_switches + w.takes < 2 ^ 64 }
     ensures { result ≡ ticked_sched s tick c p w }
 {
-    let config = s.config;
-    let capacities = s.capacities;
-    let states = p.states;
-    let exits = p.exits;
-    let blocks = p.blocks;
-    let yields = p.yields;
-    let progressed = p.progressed;
-    let ticks = c.ticks;
-    let lanes = c.lanes;
-    let log = w.log;
+    let Planned {
+        states,
+        marks,
+        queued,
+        ..
+    } = p;
+    let Marks {
+        exits,
+        blocks,
+        yields,
+        progressed,
+    } = marks;
+    let Charged { ticks, lanes } = c;
     Sched {
-        config,
-        capacities,
-        cores: s.cores,
-        threads: s.threads,
-        queued: p.queued,
+        queued,
         now: tick,
         context_switches: s.context_switches + w.takes,
-        closed: s.closed,
         states,
         exits,
         blocks,
         yields,
         progressed,
         ticks,
-        log,
+        log: w.log,
         lanes,
+        ..s
     }
 }
 
@@ -270,52 +211,34 @@ fn plan_quiet(s: Sched) -> Planned
     requires { (s.cores ≤ 8) × (is_quiet s ≡ true) × Roomy s }
     ensures { (result.moves ≡ 0) × ((qs ps ws : List ℕ) → PlannedOf s qs qs ps ws ws result) }
 {
-    let states = sliced_states(s);
-    let exits = s.exits;
-    let blocks = s.blocks;
-    let yields = s.yields;
-    let progressed = s.progressed;
-    Planned {
-        states,
-        exits,
-        blocks,
-        yields,
-        progressed,
-        queued: s.queued,
-        moves: 0,
-    }
+    Planned::new(sliced_states(s), marks_of(s), s.queued, 0)
 }
 
 // What no moves come to.
 fn write_nothing(s: Sched, lanes: &[u64]) -> Written
     ensures { (result.takes ≡ 0) × ((tick : ℕ) (ls : List ℕ) → RingOK (log_words s.capacities.events ls) s.log → WrittenOf s tick [] ls ls result) }
 {
-    let log = s.log;
-    let switches = switch_list(lanes, 0);
     Written {
-        log,
+        log: s.log,
         takes: 0,
-        switches,
+        switches: switch_list(lanes, 0),
     }
 }
 
 // The rest of a tick end that switches nothing, after the charging: queue, log and lanes stay as they are.
-fn tick_quiet(s: Sched, answer: CallAnswer, charged: Charged, lanes: &[u64]) -> Decided
+fn tick_quiet(s: Sched, charged: Charged, lanes: &[u64]) -> Decided
     requires { (s.cores ≤ 8) × (is_quiet s ≡ true) × Roomy s × (s.now.0 + 1 < 2 ^ 64) }
-    ensures answer { result.answer ≡ answer }
-    ensures pending { (ts : List ThreadInfo) (qs ps ls ws ws' : List ℕ) → Valid s (memory ts qs ps ls ws) → tick_refusal s ≡ none
-        → ChargedOf s ws ws' charged → answer ≡ CallCases.Taken
+    ensures { (ts : List ThreadInfo) (qs ps ls ws ws' : List ℕ) → Valid s (memory ts qs ps ls ws) → tick_refusal s ≡ none
+        → ChargedOf s ws ws' charged
         → TickPending result.answer result.switches s result.sched result.moves ts qs qs ps ls ls ws ws' }
 {
     let planned = plan_quiet(s);
     let tick = next_tick(s);
     let written = write_nothing(s, lanes);
-    let sched = after_tick(s, tick, charged, planned, written);
-    let switches = written.switches;
     Decided {
-        sched,
-        answer,
-        switches,
+        sched: after_tick(s, tick, charged, planned, written),
+        answer: Ok(()),
+        switches: written.switches,
         moves: planned.moves,
     }
 }
@@ -323,34 +246,27 @@ fn tick_quiet(s: Sched, answer: CallAnswer, charged: Charged, lanes: &[u64]) -> 
 // A tick end that is not refused.
 fn tick_taken(
     s: Sched,
-    answer: CallAnswer,
     queue: &mut [u32],
     prios: &[u32],
     log: &mut [u64],
     lanes: &mut [u64],
 ) -> Decided
     requires { (tick_refusal s ≡ none) × ((ts : List ThreadInfo) × Valid s (memory ts queue.old prios.now log.old lanes.old)) }
-    ensures answer { result.answer ≡ answer }
-    ensures pending { (ts : List ThreadInfo) → Valid s
-        (memory ts queue.old prios.now log.old lanes.old) → answer ≡ CallCases.Taken
+    ensures { (ts : List ThreadInfo) → Valid s (memory ts queue.old prios.now log.old lanes.old)
         → TickPending result.answer result.switches s result.sched result.moves ts
         queue.old queue.new prios.now log.old log.new lanes.old lanes.new }
 {
     let charged = charge_tick(s, lanes);
     if is_quiet(s) {
-        return tick_quiet(s, answer, charged, lanes);
+        return tick_quiet(s, charged, lanes);
     }
     let planned = plan_any(s, queue, prios, lanes);
     let tick = next_tick(s);
-    let pos = s.log;
-    let capacities = s.capacities;
-    let written = write_at(pos, capacities.events, log, lanes, planned.moves, tick);
-    let sched = after_tick(s, tick, charged, planned, written);
-    let switches = written.switches;
+    let written = write_at(s.log, s.capacities.events, log, lanes, planned.moves, tick);
     Decided {
-        sched,
-        answer,
-        switches,
+        sched: after_tick(s, tick, charged, planned, written),
+        answer: Ok(()),
+        switches: written.switches,
         moves: planned.moves,
     }
 }
@@ -370,15 +286,12 @@ pub fn tick_decided(
 {
     let answer = check_tick(s);
     match answer {
-        CallAnswer::Refused(_) => {
-            let switches = switch_list(lanes, 0);
-            Decided {
-                sched: s,
-                answer,
-                switches,
-                moves: 0,
-            }
-        }
-        CallAnswer::Taken => tick_taken(s, answer, queue, prios, log, lanes),
+        Err(_) => Decided {
+            sched: s,
+            answer,
+            switches: switch_list(lanes, 0),
+            moves: 0,
+        },
+        Ok(()) => tick_taken(s, queue, prios, log, lanes),
     }
 }

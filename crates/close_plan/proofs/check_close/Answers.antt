@@ -1,17 +1,19 @@
-use mathlib.Core.Path.{refl}
+use mathlib.Core.Path.{refl, ◌∙◌}
 use borrow.Author.Tests.{le-leb, lt-leb}
 use Rattle.model.specs.Calls.{limit_now}
 use Rattle.checks.proofs.Ladder.{hit, pass}
+use Rattle.sched_marks.proofs.Passing.{refusal-passed}
 use Rattle.close_plan.proofs.Parts.{close-stopped, close-rest}
 use Rattle.close_plan.proofs.check_close.Goals as goal
 
-pub returns-then-now-ge-LIMIT : goal.returns-then-now-ge-LIMIT
+pub returns-then-s-ge-LIMIT : goal.returns-then-s-ge-LIMIT
 unfolding limit_now
-returns-then-now-ge-LIMIT c = close-rest c.args.s _ _ _ c.in-Taken.is c.check_core-answer.ensures (hit 18 _ _ (le-leb _ _ c.if-now-ge-LIMIT.true))
+returns-then-s-ge-LIMIT c = close-rest c.args.s _ _ c.check_core.result c.in_ok-check_core.was c.check_core.ensures (hit 18 _ _ (le-leb _ _ c.if-s-ge-LIMIT.true))
 
-pub returns-in-Refused : goal.returns-in-Refused
-returns-in-Refused c = close-stopped c.args.s _ _ _ c.in-Refused.is c.check_core-answer.ensures
+pub returns-in_err-check_core : goal.returns-in_err-check_core
+returns-in_err-check_core c =
+    refusal-passed c.check_core.result _ _ c.in_err-check_core.was c.from_residual.ensures.1 ∙ close-stopped c.args.s _ _ _ c.in_err-check_core.was c.check_core.ensures
 
-pub returns-else-now-ge-LIMIT : goal.returns-else-now-ge-LIMIT
+pub returns : goal.returns
 unfolding limit_now
-returns-else-now-ge-LIMIT c = close-rest c.args.s _ _ _ c.in-Taken.is c.check_core-answer.ensures (pass 18 _ _ _ (lt-leb _ _ c.if-now-ge-LIMIT.false) refl)
+returns c = close-rest c.args.s _ _ c.check_core.result c.in_ok-check_core.was c.check_core.ensures (pass 18 _ _ _ (lt-leb _ _ c.if-s-ge-LIMIT.false) refl)

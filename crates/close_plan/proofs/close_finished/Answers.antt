@@ -1,11 +1,11 @@
 use Rattle.close_plan.proofs.Parts.{answer-taken, finished-refused, finished-taken}
 use Rattle.close_plan.proofs.close_finished.Goals as goal
 
-pub closed-sched-requires : goal.closed-sched-requires
-closed-sched-requires c = c.requires.phase (answer-taken c.args.s _ _ c.check_close-answer.ensures c.in-Taken.is)
+pub closed-requires : goal.closed-requires
+closed-requires c = c.requires.phase (answer-taken c.args.s _ _ c.check_close-answer.ensures c.in-Ok.is)
 
-pub returns-in-Refused : goal.returns-in-Refused
-returns-in-Refused c = finished-refused c.args.s _ _ c.check_close-answer.ensures _ _ _ c.in-Refused.is
+pub returns-in-Err : goal.returns-in-Err
+returns-in-Err c = finished-refused c.args.s _ _ c.check_close-answer.ensures _ _ _ c.in-Err.is
 
-pub returns-in-Taken : goal.returns-in-Taken
-returns-in-Taken c = finished-taken c.args.s _ _ c.check_close-answer.ensures c.args.e _ _ _ c.in-Taken.is c.closed-sched.ensures
+pub returns-in-Ok : goal.returns-in-Ok
+returns-in-Ok c = finished-taken c.args.s _ _ c.check_close-answer.ensures c.args.e _ _ _ c.in-Ok.is c.closed.ensures

@@ -4,8 +4,8 @@ use Rattle.close_plan.proofs.closed.Goals as goal
 pub phase1-sliced-requires : goal.phase1-sliced-requires
 phase1-sliced-requires c = record {
   n_bound = c.requires.charge.cores;
-  by_index = short-same c.args.s _ c.core_states-states.ensures c.requires.short;
+  by_index = short-same c.args.s _ c.unpack.ensures c.requires.short;
 }
 
 pub returns : goal.returns
-returns c = closed_of c.args.s _ c.core_states-states.ensures _ _ c.charge-charged.result _ _ c.next_tick-tick.result _ c.charge-charged.ensures c.phase1-sliced.ensures c.pack-packed.ensures.words c.pack-packed.ensures.states c.next_tick-tick.ensures c.closed_sched.ensures
+returns c = closed_of c.args.s _ c.unpack.ensures _ _ c.charge-charged.result _ _ c.next_tick.result _ c.charge-charged.ensures c.phase1-sliced.ensures c.pack.ensures.words c.pack.ensures.states c.next_tick.ensures c.closed_sched.ensures

@@ -3,10 +3,10 @@ use Rattle.exit_plan.specs.Exit.{exit_change}
 use Rattle.exit_plan.proofs.Parts.{taken_is, refused-is, check-taken, check-refused}
 use Rattle.exit_plan.proofs.exit_change.Goals as goal
 
-pub returns-in-Refused : goal.returns-in-Refused
+pub returns-in-Err : goal.returns-in-Err
 unfolding exit_change
-returns-in-Refused c = sym (refused-is _ _ _ _ (check-refused _ _ _ c.check_core-answer.ensures _ c.in-Refused.is))
+returns-in-Err c = sym (refused-is _ _ _ _ (check-refused _ _ _ c.check_core.ensures _ c.in-Err.is))
 
-pub returns-in-Taken : goal.returns-in-Taken
+pub returns-in-Ok : goal.returns-in-Ok
 unfolding exit_change
-returns-in-Taken c = sym (taken_is _ _ _ (check-taken _ _ _ c.check_core-answer.ensures c.in-Taken.is))
+returns-in-Ok c = sym (taken_is _ _ _ (check-taken _ _ _ c.check_core.ensures c.in-Ok.is))

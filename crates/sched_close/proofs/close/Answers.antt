@@ -17,4 +17,4 @@ pub returns : goal.returns
 returns c = λ ps v.
     close-done c.args.s c.args.threads.now c.args.queue.now ps c.args.log.now c.args.lanes.now v c.args.core.0 c.exit-e.result c.exit-e.new.threads c.exit-e.new.queue c.exit-e.new.log
     (rw c.close_core-on.ensures at (c.exit-e.ensures ps c.args.lanes.now v))
-    c.charge_all.new.threads (rw c.charged_cores-cores.ensures at (rw c.charged_threads-n.ensures at c.charge_all.ensures)) c.close_finished.result.sched c.close_finished.result.answer c.close_finished.new.lanes c.close_finished.ensures
+    c.charge_all.new.threads (rw c.unpack.ensures at (rw c.charged_threads-n.ensures at c.charge_all.ensures)) c.close_finished.result.sched c.close_finished.result.answer c.close_finished.new.lanes c.close_finished.ensures

@@ -1,6 +1,6 @@
 -- What each call asks and what `exit` says, from what the calls before it left.
 use Prim.Native.Nat.{ℕ, ◌<◌}
-use mathlib.Core.Path.{◌≡◌, ◌∙◌}
+use mathlib.Core.Path.{◌≡◌, refl, ◌∙◌}
 use mathlib.Core.List.{List}
 use lib.ListN.{length, get_or}
 use Rattle.model.specs.declared.ThreadInfo.{ThreadInfo}
@@ -45,7 +45,7 @@ module _ (st : Sched) (core : CoreId) (ys : List ThreadInfo) (qs ls : List ℕ) 
       finishes : FinishFit st len qs₂ ls
       finishes = finish-fits st ys qs pre.prios ls pre.lanes pre.valid core.0 ys₁ updated-so long₁ ys₂ len qs₂ woken-so long_q
 
-      told : length ys₂ ≡ length ys → (r : Answered) (ls' : List ℕ) → Finished st core.0 len qs₂ ls ls' r.sched r.answer → (ps ws : List ℕ) → Valid st (memory ys qs ps ls ws) → Done (Calls.exit core.0) (call_answer_meant r.answer) st r.sched (memory ys qs ps ls ws) (memory ys₂ qs₂ ps ls' ws)
+      told : length ys₂ ≡ length ys → (r : Answered Unit) (ls' : List ℕ) → Finished st core.0 len qs₂ ls ls' r.sched r.answer → (ps ws : List ℕ) → Valid st (memory ys qs ps ls ws) → Done (Calls.exit core.0) (call_answer_meant r.answer) st r.sched (memory ys qs ps ls ws) (memory ys₂ qs₂ ps ls' ws)
       told long₂ r ls' fin ps ws v = exit-done st ys qs ps ls ws v core.0 ys₁ updated-so long₁ ys₂ len qs₂ woken-so long_q long₂ r.sched r.answer ls' fin
 
 pub update-requires : goal.update-requires
@@ -54,15 +54,15 @@ update-requires c = updates c.args.s c.args.core _ _ _ c.requires _ _ c.exit_pla
 pub wake_waiters-len-requires : goal.wake_waiters-len-requires
 wake_waiters-len-requires c =
     wakes c.args.s c.args.core _ _ _ c.requires _ _ c.exit_place-i.ensures c.exit_change-change.ensures _ c.update.ensures c.update.auto.threads
-    _ _ _ c.exit_threads-n.ensures c.exit_tid-on.ensures c.queued_of-from.ensures
+    _ _ _ c.exit_threads-n.ensures c.exit_tid-on.ensures refl
 
 pub exit_finished-requires : goal.exit_finished-requires
 exit_finished-requires c =
     finishes c.args.s c.args.core _ _ _ c.requires _ _ c.exit_place-i.ensures c.exit_change-change.ensures _ c.update.ensures c.update.auto.threads
-    _ _ _ _ c.exit_threads-n.ensures c.exit_tid-on.ensures c.queued_of-from.ensures _ _ c.wake_waiters-len.ensures c.wake_waiters-len.auto.queue
+    _ _ _ _ c.exit_threads-n.ensures c.exit_tid-on.ensures refl _ _ c.wake_waiters-len.ensures c.wake_waiters-len.auto.queue
 
 pub returns : goal.returns
 returns c =
     told c.args.s c.args.core _ _ _ c.requires _ _ c.exit_place-i.ensures c.exit_change-change.ensures _ c.update.ensures c.update.auto.threads
-    _ _ _ _ c.exit_threads-n.ensures c.exit_tid-on.ensures c.queued_of-from.ensures _ _ c.wake_waiters-len.ensures c.wake_waiters-len.auto.queue
+    _ _ _ _ c.exit_threads-n.ensures c.exit_tid-on.ensures refl _ _ c.wake_waiters-len.ensures c.wake_waiters-len.auto.queue
     (c.wake_waiters-len.auto.threads ∙ c.update.auto.threads) _ _ c.exit_finished.ensures

@@ -4,4 +4,4 @@ use Rattle.sched_force.proofs.force_switch.Goals as goal
 pub returns : goal.returns
 returns c =
     rw (c.ticked.ensures.0, c.ticked.ensures.1, c.ticked.ensures.2)
-    ((c.force_decided-d.ensures c.args.threads.now c.requires).done c.apply_moves.new.threads (rw c.moves_of-moves.ensures at (rw c.present_tick-tick.ensures at c.apply_moves.ensures)))
+    ((c.force_decided-d.ensures c.args.threads.now c.requires).done c.apply_moves.new.threads c.apply_moves.ensures)

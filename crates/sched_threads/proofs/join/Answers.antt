@@ -4,7 +4,6 @@ use lib.ListN.{get_or}
 use Rattle.threads.specs.Slice.{blank}
 use Rattle.thread_plan.specs.Reads.{known_place}
 use Rattle.thread_plan.proofs.Owning.{place-there}
-use Rattle.sched_threads.proofs.Updates.{done-by}
 use Rattle.sched_threads.proofs.join.Goals as goal
 
 pub record_at-t-requires : goal.record_at-t-requires
@@ -16,4 +15,4 @@ pub returns : goal.returns
 returns c =
     λ qs ps ls ws v.
     let t-read : c.record_at-t.result ≡ get_or c.args.threads.now (known_place c.args.s c.args.target.0) blank = rw c.known_place.ensures at c.record_at-t.ensures in
-    rw c.join_answered.ensures (done-by (c.join_decided-d.ensures c.args.threads.now qs ps ls ws v t-read) _ _ c.place_of.ensures c.change_of.ensures _ c.update.ensures)
+    rw c.answered.ensures ((c.join_decided-d.ensures c.args.threads.now qs ps ls ws v t-read).done _ c.update.ensures)

@@ -1,7 +1,7 @@
 use borrow.Author.Rules.{rules}
 use borrow.Author.Tests.{eqb-true, eqb-false}
 use native.Mathlib.Omega.{arith}
-use Prim.Native.Nat.{ℕ, ◌≤◌, ◌<◌, ◌+◌, ◌-◌}
+use Prim.Native.Nat.{ℕ, ◌≤◌, ◌<◌, ◌+◌}
 use mathlib.Core.Path.{◌≡◌, refl, ◌∙◌}
 use mathlib.Core.Bool.{Bool, true, false, ◌||◌}
 use mathlib.Core.List.{List}
@@ -33,15 +33,14 @@ module _ (i : ℕ) (m m₀ : List Bool) (k : ℕ) (marked : i < k → m ≡ set 
   before false e h = elsewhere ∙ not_yet (omega (arith, h))
 
 pub loop-k-init : goal.loop-k-init
-loop-k-init c = (search rules, search rules, λ h. absurd (omega (arith, h)), λ h. refl)
+loop-k-init c = (search rules, λ h. absurd (omega (arith, h)), λ h. refl)
 
 pub loop-k-preserved : goal.loop-k-preserved
 loop-k-preserved c = (
-  search rules,
-  simp length-set c.loop-k.invariant.1,
-  after c.args.i c.loop-k.m c.args.marks c.loop-k.k c.loop-k.invariant.2 c.loop-k.invariant.3 _ refl,
-  before c.args.i c.loop-k.m c.args.marks c.loop-k.k c.loop-k.invariant.2 c.loop-k.invariant.3 _ refl,
+  simp length-set c.loop-k.invariant.0,
+  after c.args.i c.loop-k.mark-items c.args.marks c.loop-k.k c.loop-k.invariant.1 c.loop-k.invariant.2 _ refl,
+  before c.args.i c.loop-k.mark-items c.args.marks c.loop-k.k c.loop-k.invariant.1 c.loop-k.invariant.2 _ refl,
 )
 
 pub returns : goal.returns
-returns c = c.loop-k.invariant.2 (omega (arith, c.requires, c.loop-k-test.false))
+returns c = c.loop-k.invariant.1 (omega (arith, c.requires, c.loop-k-test.false))

@@ -1,25 +1,17 @@
-use native.Mathlib.Omega.{arith}
-use mathlib.Core.Path.{sym}
-use lib.Seq.{length-take-le}
-use Rattle.tick_plan.proofs.OnePlan.{short-one, planned-one}
+use borrow.Author.Rules.{rules}
+use mathlib.Core.Path.{ap}
+use mathlib.Core.List.{◌∷◌}
+use lib.ListN.{drop}
+use Rattle.model.specs.declared.CoreState.{CoreState}
+use Rattle.state.specs.State.{states_of}
+use Rattle.state.proofs.Words.{words-in, first-packed}
+use Rattle.tick_plan.proofs.OnePlan.{planned-one}
 use Rattle.tick_plan.proofs.one.plan_one.Goals as goal
-
-pub slice_bounds-decide_one-end : goal.slice_bounds-decide_one-end
-slice_bounds-decide_one-end c = sym (length-take-le _ _ c.requires.0.prios)
-
-pub slice_bounds-decide_one-end-3 : goal.slice_bounds-decide_one-end-3
-slice_bounds-decide_one-end-3 c = sym (length-take-le 80 c.args.lanes.now c.requires.0.words)
-
-pub decide_one-next-requires : goal.decide_one-next-requires
-decide_one-next-requires c =
-    record {
-      fact = (c.requires.2, c.requires.0.queued, omega (arith, length-take-le 80 c.args.lanes.now c.requires.0.words));
-      short = short-one c.args.s c.args.queue.now c.args.prios.now c.args.lanes.now c.requires.0 c.requires.1 _ c.state_in-state.ensures;
-    }
 
 pub returns : goal.returns
 returns c =
-    planned-one c.args.s c.args.queue.now c.decide_one-next.new.queue c.args.prios.now c.args.lanes.now c.decide_one-next.new.out c.state_in-state.result c.decide_one-next.result
-    c.decide_one-next.new.exits c.decide_one-next.new.blocks c.decide_one-next.new.yields c.decide_one-next.new.progressed c.decide_one-next.new.len c.decide_one-next.new.count
-    c.planned_one.result c.requires.1 c.state_in-state.ensures c.planned_one.ensures.states c.planned_one.ensures.marks c.planned_one.ensures.eight c.requires.0.words
-    c.decide_one-next.auto.out c.decide_one-next.auto.queue c.decide_one-next.ensures.decided c.decide_one-next.ensures.rest c.decide_one-next.ensures.queue c.decide_one-next.ensures.out c.planned_one.ensures.words
+    let d = c.decide_core-next in
+    let split = c.split_at_mut-front.ensures in
+    let first = ap (λ (x : CoreState). x ∷ drop 1 (states_of c.args.s.states)) (words-in c.words_of.result d.result c.words_of.ensures) in
+    planned-one c.args.s c.args.queue.now d.new.queue.words.now c.args.prios.now c.args.lanes.now _ d.new.moves.words.now c.state_in.result d.result _ c.marks_of-marks.result d.new.marks d.new.queue.len d.new.moves.count _ _ _ _ (search rules) (search rules) split.back split.front
+    c.requires.1 c.state_in.ensures c.marks_of-marks.ensures first c.new.ensures.parts c.new.ensures.eight c.requires.0.words d.ensures.lent_moves.long d.ensures.lent.long d.ensures.decided d.ensures.rest d.ensures.queue d.ensures.out (first-packed c.args.s.states c.words_of.result d.result c.words_of.ensures)

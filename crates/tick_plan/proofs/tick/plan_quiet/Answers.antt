@@ -1,8 +1,15 @@
-use borrow.Author.Rules.{rules}
-use mathlib.Core.Path.{refl}
+use Prim.Native.Nat.{ℕ}
+use mathlib.Core.Path.{◌≡◌, sym, subst, ◌∙◌}
+use Rattle.state.specs.declared.Eight.{Eight}
+use Rattle.state.specs.State.{packed, states_of}
+use Rattle.quiet.specs.Quiet.{sliced_below, state_at}
 use Rattle.tick_plan.proofs.Quiet.{quiet-planned}
 use Rattle.tick_plan.proofs.tick.plan_quiet.Goals as goal
 
 pub returns : goal.returns
 returns c =
-    (refl, quiet-planned c.args.s c.requires.1 (record { states = c.sliced_states-states.result; exits = c.args.s.exits; blocks = c.args.s.blocks; yields = c.args.s.yields; progressed = c.args.s.progressed; queued = c.args.s.queued; moves = 0 }) c.sliced_states-states.ensures.states refl refl refl refl refl refl (search rules) (search rules) (search rules) (search rules) c.sliced_states-states.ensures.words)
+    let s = c.args.s in
+    let p = c.new.ensures.parts in
+    let sliced = subst (λ (e : Eight). (j : ℕ) → state_at e j ≡ sliced_below s.cores j (state_at s.states j)) (sym p.0) c.sliced_states.ensures.states in
+    let words = subst (λ (e : Eight). s.states ≡ packed (states_of s.states) → e ≡ packed (states_of e)) (sym p.0) c.sliced_states.ensures.words in
+    (p.3, quiet-planned s c.requires.1 c.new.result sliced (p.1 ∙ c.marks_of.ensures) p.2 p.3 c.new.ensures.eight words)

@@ -1,3 +1,4 @@
+use Rattle.std.specs.Prelude.{Ok}
 use mathlib.Core.Path.{◌∙◌, refl, sym}
 use Rattle.tick_plan.proofs.Ticking.{next_fits, charge-fits, plan-fits, write-fits, switches-fit}
 use Rattle.tick_plan.proofs.Parts.{pending-at}
@@ -13,10 +14,8 @@ tick_quiet-requires c =
     (c.requires.1.1.sizes.cores, sym c.is_quiet.ensures ∙ c.if-is_quiet.true, quiet-roomy c.args.s c.requires.1.0 c.args.queue.now c.args.prios.now c.args.log.now c.args.lanes.now c.requires.1.1 c.requires.0, next_fits c.args.s c.requires.1.0 c.args.queue.now c.args.prios.now c.args.log.now c.args.lanes.now c.requires.1.1)
 
 pub returns-then-is_quiet : goal.returns-then-is_quiet
-returns-then-is_quiet c = record {
-  answer = c.tick_quiet.ensures.answer;
-  pending = λ ts v e. c.tick_quiet.ensures.pending ts c.args.queue.now c.args.prios.now c.args.log.now c.args.lanes.now _ v c.requires.0 c.charge_tick-charged.ensures e;
-}
+returns-then-is_quiet c = λ ts v.
+    c.tick_quiet.ensures ts c.args.queue.now c.args.prios.now c.args.log.now c.args.lanes.now _ v c.requires.0 c.charge_tick-charged.ensures
 
 pub plan_any-planned-requires : goal.plan_any-planned-requires
 plan_any-planned-requires c =
@@ -30,13 +29,11 @@ pub write_at-written-requires : goal.write_at-written-requires
 write_at-written-requires c =
     write-fits c.args.s c.requires.1.0 c.args.queue.now c.args.prios.now c.args.log.now c.args.lanes.now c.requires.1.1 c.requires.0 c.charge_tick-charged.new.lanes c.plan_any-planned.new.lanes _ _ c.charge_tick-charged.ensures.lanes.size c.plan_any-planned.ensures.long_lanes c.plan_any-planned.ensures.few c.next_tick-tick.ensures
 
-pub after_tick-sched-requires : goal.after_tick-sched-requires
-after_tick-sched-requires c =
+pub after_tick-requires : goal.after_tick-requires
+after_tick-requires c =
     switches-fit c.args.s c.requires.1.0 c.args.queue.now c.args.prios.now c.args.log.now c.args.lanes.now c.requires.1.1 c.requires.0 _ _ _ _ _ c.plan_any-planned.ensures.few
     (write-fits c.args.s c.requires.1.0 c.args.queue.now c.args.prios.now c.args.log.now c.args.lanes.now c.requires.1.1 c.requires.0 c.charge_tick-charged.new.lanes c.plan_any-planned.new.lanes _ _ c.charge_tick-charged.ensures.lanes.size c.plan_any-planned.ensures.long_lanes c.plan_any-planned.ensures.few c.next_tick-tick.ensures) c.write_at-written.ensures
 
 pub returns : goal.returns
-returns c = record {
-  answer = refl;
-  pending = λ ts v e. pending-at c.args.s ts c.args.queue.now c.args.prios.now c.args.log.now c.args.lanes.now v c.requires.0 c.next_tick-tick.result c.charge_tick-charged.result c.plan_any-planned.result c.write_at-written.result c.after_tick-sched.result _ _ _ _ c.after_tick-sched.ensures c.next_tick-tick.ensures c.charge_tick-charged.ensures c.plan_any-planned.ensures c.write_at-written.ensures c.args.answer e;
-}
+returns c = λ ts v.
+    pending-at c.args.s ts c.args.queue.now c.args.prios.now c.args.log.now c.args.lanes.now v c.requires.0 c.next_tick-tick.result c.charge_tick-charged.result c.plan_any-planned.result c.write_at-written.result c.after_tick.result _ _ _ _ c.after_tick.ensures c.next_tick-tick.ensures c.charge_tick-charged.ensures c.plan_any-planned.ensures c.write_at-written.ensures (Ok tt) refl
