@@ -8,11 +8,11 @@
 
 ghost use Rattle.std.specs.Prelude.{◌≤◌};
 
-use model::{OptionOut, OptionTid, SwitchWords, ThreadInfo};
+use model::{SwitchWords, ThreadInfo};
 use records::change::first_thread;
-use replay_array::{ReplayedArray, replay_in};
+use replay::{Replayed, replay};
 use sched::Outcome;
-use settings::{SchedConfig, SchedPolicy};
+use settings::{Refusal, SchedConfig, SchedPolicy};
 use state::Capacities;
 use switches::{SwitchList, switch_of};
 use text::STDOUT_FILENO;
@@ -56,7 +56,7 @@ fn main() {
 }
 
 fn show(cores: u32, quantum: u32, cost: u32, p: u32) {
-    let spawns = std::num::wrapping_add_u32(cores, p);
+    let spawns = cores.wrapping_add(p);
     let board = Board {
         cores,
         quantum,
@@ -78,23 +78,11 @@ fn show(cores: u32, quantum: u32, cost: u32, p: u32) {
     print(b"\n");
 }
 
-// (p / cores + 1) × (quantum + cost), 0 cores counted as 1: so many windows, put one after the other.
+// (p / cores + 1) × (quantum + cost), 0 cores counted as 1.
 fn bound(p: u64, cores: u32, quantum: u32, cost: u32) -> u64 {
     let window = quantum as u64 + cost as u64;
-    let mut left = windows(p, cores);
-    let mut ticks = window;
-    while 0 < left {
-        ticks = std::num::wrapping_add_u64(ticks, window);
-        left -= 1;
-    }
-    ticks
-}
-
-fn windows(p: u64, cores: u32) -> u64 {
-    if cores == 0 {
-        return p;
-    }
-    p / cores as u64
+    let windows = p / (cores as u64).max(1);
+    windows.wrapping_add(1).wrapping_mul(window)
 }
 
 // The list's next call, and how many it then has. A full list stays as it is.
@@ -113,20 +101,16 @@ fn put_call(calls: &mut [u32; 9_000], count: usize, kind: u32, first: u32) -> us
 
 fn put_reports(calls: &mut [u32; 9_000], from: usize, cores: u32) -> usize {
     let mut count = from;
-    let mut core = 0;
-    while core < cores {
+    for core in 0..cores {
         count = put_call(calls, count, 4, core);
-        core += 1;
     }
     count
 }
 
 fn put_spawns(calls: &mut [u32; 9_000], spawns: u32) -> usize {
     let mut count = 0;
-    let mut i = 0;
-    while i < spawns {
+    for _ in 0..spawns {
         count = put_call(calls, count, 1, 0);
-        i += 1;
     }
     count
 }
@@ -142,31 +126,27 @@ fn put_start(calls: &mut [u32; 9_000], board: Board) -> usize {
 // Ticks before each of which every core reports, 250 of them.
 fn put_ticks(calls: &mut [u32; 9_000], from: usize, cores: u32) {
     let mut count = from;
-    let mut i: u32 = 0;
-    while i < 250 {
+    for _ in 0..250 {
         let reported = put_reports(calls, count, cores);
         count = put_call(calls, reported, 9, 0);
-        i += 1;
     }
 }
 
 // Tick end by tick end from the start on: how many ticks till thread 0 takes a core, and what it runs till it leaves.
 fn follow(board: Board, calls: &[u32; 9_000], start: usize) -> Found {
     let step = board.cores as usize + 1;
-    let mut upto = start;
     let mut ticks = 0;
     let mut taken = false;
     let mut run = 0;
-    while upto < CALLS {
-        upto = upto + step;
-        let seen = after(board, calls, upto);
+    for done in (start..CALLS).step_by(step) {
+        let seen = after(board, calls, done + step);
         if taken {
             if seen.left {
-                let stay = std::num::wrapping_sub_u64(seen.run, run);
+                let stay = seen.run.wrapping_sub(run);
                 return Found { ticks, stay };
             }
         } else {
-            ticks = std::num::wrapping_add_u64(ticks, seen.ticked);
+            ticks = ticks.wrapping_add(seen.ticked);
             taken = seen.taken;
             run = seen.run;
         }
@@ -187,108 +167,67 @@ fn after(board: Board, calls: &[u32; 9_000], upto: usize) -> Seen {
         events: 1,
         segments: 1,
     };
-    let blank = first_thread(0);
-    let records = [blank; 256];
+    let mut threads = [first_thread(0); 256];
     let mut queue = [0u32; 256];
     let mut prios = [0u32; 256];
     let mut log = [0u64; 2];
     let mut lanes = [0u64; 96];
-    let cores = board.cores;
-    let last = replay_in(
-        config, cores, capacities, 0, calls, upto, records, &mut queue, &mut prios, &mut log,
+    let replayed = replay(
+        config,
+        board.cores,
+        capacities,
+        0,
+        calls,
+        upto,
+        &mut threads,
+        &mut queue,
+        &mut prios,
+        &mut log,
         &mut lanes,
     );
-    let replayed = last.replayed;
-    let sched = replayed.sched;
-    let before = place(&queue, sched.queued);
-    seen_of(last, before)
+    let before = place(&queue, replayed.sched.queued);
+    seen_of(replayed, threads[0], before)
 }
 
 // The place of thread 0 in the queue; 256 where it is not there.
 fn place(queue: &[u32; 256], queued: usize) -> usize {
-    let mut i = 0;
-    while i < 256 {
-        if i < queued {
-            if queue[i] == 0 {
-                return i;
-            }
-        }
-        i += 1;
-    }
-    i
+    queue
+        .iter()
+        .take(queued)
+        .position(|tid| *tid == 0)
+        .unwrap_or(256)
 }
 
-fn seen_of(last: ReplayedArray, before: usize) -> Seen {
-    let replayed = last.replayed;
-    let threads = last.threads;
-    let first = threads[0];
-    let stats = first.stats;
-    let outcome = replayed.outcome;
-    let switches = replayed.switches;
+fn seen_of(replayed: Replayed, first: ThreadInfo, before: usize) -> Seen {
     Seen {
         before,
-        ticked: ticked(outcome),
-        taken: takes(switches),
-        left: leaves(switches),
-        run: stats.run_ticks,
+        ticked: ticked(replayed.outcome),
+        taken: takes(replayed.switches),
+        left: leaves(replayed.switches),
+        run: first.stats.run_ticks,
     }
 }
 
-fn ticked(outcome: Outcome) -> u64 {
-    match outcome {
-        Outcome::Switched => 1,
-        _ => 0,
-    }
+fn ticked(outcome: Result<Outcome, Refusal>) -> u64 {
+    u64::from(matches!(outcome, Ok(Outcome::Switched)))
 }
 
 // Whether a switch list has thread 0 coming in.
 fn takes(list: SwitchList) -> bool {
-    let entries = list.entries;
-    let mut i = 0;
-    while i < 8 {
-        if i < list.count {
-            let e = entries[i];
-            if comes(e) {
-                return true;
-            }
-        }
-        i += 1;
-    }
-    false
+    list.entries.iter().take(list.count).any(|w| comes(*w))
 }
 
 // Whether a switch list has thread 0 going out.
 fn leaves(list: SwitchList) -> bool {
-    let entries = list.entries;
-    let mut i = 0;
-    while i < 8 {
-        if i < list.count {
-            let e = entries[i];
-            if goes(e) {
-                return true;
-            }
-        }
-        i += 1;
-    }
-    false
+    list.entries.iter().take(list.count).any(|w| goes(*w))
 }
 
 fn comes(w: SwitchWords) -> bool {
-    let e = switch_of(w);
-    let inn = e.inn;
-    match inn {
-        OptionTid::Some(t) => t.0 == 0,
-        OptionTid::None => false,
-    }
+    switch_of(w).inn.is_some_and(|t| t.0 == 0)
 }
 
 fn goes(w: SwitchWords) -> bool {
-    let e = switch_of(w);
-    let out = e.out;
-    match out {
-        OptionOut::Some(o) => o.tid.0 == 0,
-        OptionOut::None => false,
-    }
+    switch_of(w).out.is_some_and(|o| o.tid.0 == 0)
 }
 
 fn print_number(text: &[u8], n: u64) {

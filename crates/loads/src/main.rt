@@ -4,14 +4,13 @@
 // What the last repetition left is printed. Memory is lent once: 256 threads, 512 events, 4,096 segments a core.
 #![tactic(auto)]
 
-use model::{CallAnswer, ThreadInfo};
+use model::ThreadInfo;
 use records::change::first_thread;
-use settings::{SchedConfig, SchedPolicy};
+use settings::{Refusal, SchedConfig, SchedPolicy};
 use state::Capacities;
-use text::lines::piece_end;
 use text::numbers::read_number;
-use text::{Number, STDIN_FILENO, STDOUT_FILENO};
-use ticking::{LoadedArray, run_load_in};
+use text::{STDIN_FILENO, STDOUT_FILENO};
+use ticking::{Loaded, run_load};
 
 #[derive(Clone, Copy)]
 struct Load {
@@ -34,8 +33,9 @@ fn main() {
     let mut input = io::buffer();
     let n = io::read_full(STDIN_FILENO, &mut input);
     let load = load_of(&input[..n]);
-    let last = repeat(load);
-    report(last);
+    let mut threads = [first_thread(0); 256];
+    let last = repeat(load, &mut threads);
+    report(last, &threads);
 }
 
 fn load_of(text: &[u8]) -> Load {
@@ -65,55 +65,40 @@ fn policy_of(n: u32) -> SchedPolicy {
 
 // The number on a line, counted from 0; 0 where it is missing or can't be read.
 fn number_at(text: &[u8], line: usize) -> u32 {
-    let mut at = 0;
-    let mut left = line;
-    while at < text.len() {
-        let end = piece_end(text, at);
-        if left == 0 {
-            let digits = end - 1;
-            return number_of(&text[at..digits]);
-        }
-        left -= 1;
-        at = end;
+    match text.split_inclusive(|b| *b == b'\n').nth(line) {
+        Some([digits @ .., _]) => number_of(digits),
+        _ => 0,
     }
-    0
 }
 
 fn number_of(digits: &[u8]) -> u32 {
     match read_number(digits) {
-        Number::Is(n) => n,
-        Number::Unreadable => 0,
+        Some(n) => n,
+        None => 0,
     }
 }
 
 // The load is made once, and then as often as asked, each time on the memory that the one before left.
-fn repeat(load: Load) -> LoadedArray {
-    let blank = first_thread(0);
-    let records = [blank; 256];
+fn repeat(load: Load, threads: &mut [ThreadInfo]) -> Loaded {
     let mut queue = [0u32; 256];
     let mut prios = [0u32; 256];
     let mut log = [0u64; 1024];
     let mut lanes = [0u64; 65_616];
-    let mut last = once(load, records, &mut queue, &mut prios, &mut log, &mut lanes);
-    let mut left = load.repetitions;
-    while 1 < left {
-        let threads = last.threads;
+    let mut last = once(load, threads, &mut queue, &mut prios, &mut log, &mut lanes);
+    for _ in 1..load.repetitions {
         last = once(load, threads, &mut queue, &mut prios, &mut log, &mut lanes);
-        left -= 1;
     }
     last
 }
 
 fn once(
     load: Load,
-    threads: [ThreadInfo; 256],
-    queue: &mut [u32; 256],
-    prios: &mut [u32; 256],
-    log: &mut [u64; 1024],
-    lanes: &mut [u64; 65_616],
-) -> LoadedArray {
-    let config = load.config;
-    let cores = load.cores;
+    threads: &mut [ThreadInfo],
+    queue: &mut [u32],
+    prios: &mut [u32],
+    log: &mut [u64],
+    lanes: &mut [u64],
+) -> Loaded {
     let capacities = Capacities {
         threads: 256,
         events: 512,
@@ -121,26 +106,29 @@ fn once(
     };
     let count = others(load.threads);
     let ticks = load.ticks as usize;
-    run_load_in(
-        config, cores, capacities, count, ticks, threads, queue, prios, log, lanes,
+    run_load(
+        load.config,
+        load.cores,
+        capacities,
+        count,
+        ticks,
+        threads,
+        queue,
+        prios,
+        log,
+        lanes,
     )
 }
 
 // How many threads there are beside thread 0.
 fn others(threads: u32) -> usize {
-    if threads == 0 {
-        return 0;
-    }
-    (threads - 1) as usize
+    threads.saturating_sub(1) as usize
 }
 
-fn report(last: LoadedArray) {
-    let loaded = last.loaded;
-    let made = loaded.made;
-    let sched = loaded.sched;
-    let threads = last.threads;
+fn report(last: Loaded, threads: &[ThreadInfo]) {
+    let sched = last.sched;
     let sums = sums_of(threads);
-    print_number(b"refused=", refusal_of(made));
+    print_number(b"refused=", refusal_of(last.made));
     print_number(b"context_switches=", sched.context_switches);
     print_number(b"now=", sched.now.0);
     print_number(b"ready_ticks=", sums.ready);
@@ -149,34 +137,28 @@ fn report(last: LoadedArray) {
 }
 
 // What `new` answered: 0 where it made the scheduler.
-fn refusal_of(made: CallAnswer) -> u64 {
+fn refusal_of(made: Result<(), Refusal>) -> u64 {
     match made {
-        CallAnswer::Taken => 0,
-        CallAnswer::Refused(k) => k.number(),
+        Ok(()) => 0,
+        Err(k) => k.number(),
     }
 }
 
-fn sums_of(threads: [ThreadInfo; 256]) -> Sums {
-    let mut sums = Sums {
+fn sums_of(threads: &[ThreadInfo]) -> Sums {
+    let none = Sums {
         ready: 0,
         run: 0,
         preemptions: 0,
     };
-    let mut i = 0;
-    while i < 256 {
-        let t = threads[i];
-        sums = added(sums, t);
-        i += 1;
-    }
-    sums
+    threads.iter().fold(none, |sums, t| added(sums, *t))
 }
 
 fn added(sums: Sums, t: ThreadInfo) -> Sums {
     let stats = t.stats;
     Sums {
-        ready: std::num::wrapping_add_u64(sums.ready, stats.ready_ticks),
-        run: std::num::wrapping_add_u64(sums.run, stats.run_ticks),
-        preemptions: std::num::wrapping_add_u64(sums.preemptions, stats.preemptions),
+        ready: sums.ready.wrapping_add(stats.ready_ticks),
+        run: sums.run.wrapping_add(stats.run_ticks),
+        preemptions: sums.preemptions.wrapping_add(stats.preemptions),
     }
 }
 

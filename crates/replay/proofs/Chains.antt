@@ -1,10 +1,11 @@
 -- Every chain of calls, made by whomever, is the definition's own run, and the round robin guarantees hold of it.
+use Rattle.std.specs.Prelude.{Result}
+use Rattle.settings.specs.declared.Refusal.{Refusal}
 use Prim.Native.Nat.{ℕ}
 use mathlib.Core.Path.{◌≡◌, refl, ap, ◌∙◌, subst}
 use mathlib.Core.List.{List, [], ◌∷◌, ◌++◌, map}
 use Rattle.settings.specs.declared.SchedConfig.{SchedConfig}
 use Rattle.settings.specs.Reading.{policy_meant}
-use Rattle.model.specs.declared.CallAnswer.{CallAnswer}
 use Rattle.model.specs.Types.{Policy, RoundRobin, State}
 use Rattle.model.specs.Calls.{Answer, step, run, new, made}
 use Rattle.guarantees.proofs.Bounds.{round-robin-bounds}
@@ -57,7 +58,7 @@ module _ (l : Link) where
   said-snoc a [] = refl
   said-snoc a (k ∷ ls) = said-snoc k.answer ls
 
-module _ (c : SchedConfig) (n : ℕ) (k : Capacities) (entry : ℕ) (m : Memory) (a : CallAnswer) (s₀ : Sched) (m₀ : Memory) (ls : List Link) (h : Chain c n k entry m a s₀ m₀ ls) where
+module _ (c : SchedConfig) (n : ℕ) (k : Capacities) (entry : ℕ) (m : Memory) (a : Result Unit Refusal) (s₀ : Sched) (m₀ : Memory) (ls : List Link) (h : Chain c n k entry m a s₀ m₀ ls) where
   robin : policy_meant c.policy ≡ RoundRobin → new RoundRobin c.quantum c.switch_cost n k.threads k.events k.segments entry ≡ made (meant s₀ m₀)
   robin rr = subst (λ (p : Policy). new p c.quantum c.switch_cost n k.threads k.events k.segments entry ≡ made (meant s₀ m₀)) rr (h.creation.taken h.accepted).state
 

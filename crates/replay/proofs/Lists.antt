@@ -1,4 +1,6 @@
 -- Calls one after the other: what is left after the next one, and what a whole list comes to.
+use Rattle.settings.specs.declared.Refusal.{Refusal}
+use Rattle.std.specs.Prelude.{Result}
 use Prim.Native.Nat.{ℕ, suc, ◌+◌, ◌*◌, ◌<◌}
 use native.Mathlib.Omega.{arith}
 use mathlib.Core.Path.{◌≡◌, refl, sym, ap, subst, ◌∙◌}
@@ -86,7 +88,7 @@ module _ (c : SchedConfig) (n : ℕ) (k : Capacities) (entry : ℕ) (words : Lis
   first-list = record { list = first.2 ∙ sym (ap list_in first.1); few = omega (arith, ap (λ (l : SwitchList). l.count) first.2) }
 
   said : outcome_meant r.outcome r.switches ≡ outcome_meant b.outcome b.switches
-  said = ap (λ (o : Outcome). outcome_meant o r.switches) last.2 ∙ ap (λ (l : SwitchList). outcome_meant b.outcome l) last.3
+  said = ap (λ (o : Result Outcome Refusal). outcome_meant o r.switches) last.2 ∙ ap (λ (l : SwitchList). outcome_meant b.outcome l) last.3
 
   -- what was made is a chain, and all that is promised is what the law over chains says of it
   answered : check_meant g.answer ≡ none → AppliedAll (take upto (calls_of words)) a b m₁ m' → ReplayTaken c n k entry (calls_of words) upto m m' r

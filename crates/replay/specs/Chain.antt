@@ -1,10 +1,10 @@
 -- Demand 3 of the program on one run, whoever makes the calls: states and lent memory s₀ m₀, s₁ m₁, …, the first linked by the contract of `new`, each next one by the contract of a call. No code is in it: it speaks of hosts that never call
 -- `replay`, since all that it asks is what `new` and the calls promise (`NewDone`, `Done`).
-use Rattle.std.specs.Prelude.{ℕ, ◌≡◌, List, [], ◌∷◌, ◌++◌, map}
+use Rattle.settings.specs.declared.Refusal.{Refusal}
+use Rattle.std.specs.Prelude.{ℕ, ◌≡◌, List, [], ◌∷◌, ◌++◌, map, Result}
 use Rattle.std.proofs.Math.Option.{none}
 use Rattle.settings.specs.declared.SchedConfig.{SchedConfig}
 use Rattle.settings.specs.Reading.{policy_meant}
-use Rattle.model.specs.declared.CallAnswer.{CallAnswer}
 use Rattle.model.specs.Types.{RoundRobin, State}
 use Rattle.model.specs.Calls.{Call, Answer, step, new, made}
 use Rattle.guarantees.specs.Claims.{WaitHolds, StayHolds}
@@ -29,7 +29,7 @@ Linked s m [] = Unit {0}
 Linked s m (l ∷ ls) = Done l.call l.answer s l.sched m l.memory × Linked l.sched l.memory ls
 
 -- a chain: c, n, k and entry are the arguments of `new`, m is the lent memory that it was given
-pub record Chain (c : SchedConfig) (n : ℕ) (k : Capacities) (entry : ℕ) (m : Memory) (a : CallAnswer) (s₀ : Sched) (m₀ : Memory) (ls : List Link) : Type 0 where
+pub record Chain (c : SchedConfig) (n : ℕ) (k : Capacities) (entry : ℕ) (m : Memory) (a : Result Unit Refusal) (s₀ : Sched) (m₀ : Memory) (ls : List Link) : Type 0 where
   pub creation : NewDone c n k entry m m₀ s₀ a
   -- 01: "It starts from what an accepted `new` … left"
   pub accepted : check_meant a ≡ none

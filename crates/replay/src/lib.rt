@@ -1,7 +1,7 @@
 // A list of calls, made one after the other on a fresh scheduler. Its contract is the round robin guarantee over lists of calls.
 #![tactic(auto)]
 
-ghost use Rattle.std.specs.Prelude.{◌≡◌, ◌+◌, ◌*◌, ◌<◌, ◌≤◌, min, length, take};
+ghost use Rattle.std.specs.Prelude.{◌≡◌, ◌+◌, ◌*◌, ◌<◌, ◌≤◌, length, take};
 ghost use Rattle.model.specs.Calls.{ok};
 ghost use Rattle.state.specs.Memory.{memory};
 ghost use Rattle.state.specs.State.{Valid};
@@ -11,20 +11,20 @@ ghost use Rattle.sched.specs.Meant.{call_meant, outcome_meant};
 ghost use Rattle.replay.specs.Encoding.{call_of, call_at, calls_of};
 ghost use Rattle.replay.specs.Replay.{due, AppliedAll, ReplayDone};
 
-use model::{CallAnswer, CoreId, OptionTid, ThreadInfo, Tid};
+use model::{CoreId, ThreadInfo, Tid};
 use new_plan::Created;
 use sched::{Applied, Call, Outcome, apply};
 use sched_new::new;
-use settings::SchedConfig;
+use settings::{Refusal, SchedConfig};
 use state::{Capacities, Sched};
 use switches::{SwitchList, no_switches};
 
 // What `new` answered, the answer to the last call made, and what it left.
 #[derive(Clone, Copy)]
 pub struct Replayed {
-    pub made: CallAnswer,
+    pub made: Result<(), Refusal>,
     pub sched: Sched,
-    pub outcome: Outcome,
+    pub outcome: Result<Outcome, Refusal>,
     pub switches: SwitchList,
 }
 
@@ -32,17 +32,17 @@ fn call_of(kind: u32, first: u32, second: u32) -> Call
     ensures { call_meant result ≡ call_of kind first second }
 {
     match kind {
-        1 => Call::Spawn(OptionTid::Some(Tid(first)), second),
+        1 => Call::Spawn(Some(Tid(first)), second),
         2 => Call::Exit(CoreId(first)),
         3 => Call::Join(CoreId(first), Tid(second)),
         4 => Call::Retired(CoreId(first)),
         5 => Call::YieldNow(CoreId(first)),
         6 => Call::SetPriority(Tid(first), second),
         7 => Call::SetTiming(first, second),
-        8 => Call::ForceSwitch(CoreId(first), OptionTid::Some(Tid(second))),
+        8 => Call::ForceSwitch(CoreId(first), Some(Tid(second))),
         10 => Call::Close(CoreId(first)),
-        11 => Call::Spawn(OptionTid::None, second),
-        12 => Call::ForceSwitch(CoreId(first), OptionTid::None),
+        11 => Call::Spawn(None, second),
+        12 => Call::ForceSwitch(CoreId(first), None),
         _ => Call::EndTick,
     }
 }
@@ -56,59 +56,24 @@ fn call_at(calls: &[u32], i: usize) -> Call
     call_of(calls[at], calls[at + 1], calls[at + 2])
 }
 
-fn fewer(a: usize, b: usize) -> usize
-    ensures { result ≡ min a b }
-{
-    if a < b {
-        return a;
-    }
-    b
-}
-
 // How many calls are made: none where `new` is refused.
 fn calls_due(created: Created, words: usize, upto: usize) -> usize
     ensures { result ≡ due (check_meant created.answer) words upto }
 {
-    let answer = created.answer;
-    match answer {
-        CallAnswer::Taken => fewer(upto, words / 3),
-        CallAnswer::Refused(_) => 0,
+    match created.answer {
+        Ok(()) => upto.min(words / 3),
+        Err(_) => 0,
     }
-}
-
-fn sched_of(last: Applied) -> Sched
-    ensures { result ≡ last.sched }
-{
-    let s = last.sched;
-    s
 }
 
 // Before the first call: what `new` left.
 fn first_of(created: Created) -> Applied
     ensures { (result.sched ≡ created.sched) × (outcome_meant result.outcome result.switches ≡ ok) × (result.switches ≡ no_switches) }
 {
-    let sched = created.sched;
-    let switches = no_switches();
-    let outcome = Outcome::Taken;
     Applied {
-        sched,
-        outcome,
-        switches,
-    }
-}
-
-fn replay_of(created: Created, last: Applied) -> Replayed
-    ensures { (result.made ≡ created.answer) × (result.sched ≡ last.sched) × (result.outcome ≡ last.outcome) × (result.switches ≡ last.switches) }
-{
-    let made = created.answer;
-    let sched = last.sched;
-    let outcome = last.outcome;
-    let switches = last.switches;
-    Replayed {
-        made,
-        sched,
-        outcome,
-        switches,
+        sched: created.sched,
+        outcome: Ok(Outcome::Taken),
+        switches: no_switches(),
     }
 }
 
@@ -129,12 +94,9 @@ fn apply_all(
         (memory threads.new queue.new prios.new log.new lanes.new) }
 {
     let mut last = first;
-    let mut i = 0;
-    while i < n {
+    for i in 0..n {
         let call = call_at(calls, i);
-        let s = sched_of(last);
-        last = apply(s, call, threads, queue, prios, log, lanes);
-        i += 1;
+        last = apply(last.sched, call, threads, queue, prios, log, lanes);
     }
     last
 }
@@ -164,5 +126,10 @@ pub fn replay(
     let n = calls_due(created, calls.len(), upto);
     let first = first_of(created);
     let last = apply_all(first, calls, n, threads, queue, prios, log, lanes);
-    replay_of(created, last)
+    Replayed {
+        made: created.answer,
+        sched: last.sched,
+        outcome: last.outcome,
+        switches: last.switches,
+    }
 }

@@ -4,38 +4,27 @@
 #![tactic(auto)]
 
 ghost use Rattle.std.specs.Prelude.{◌≡◌, List, ℕ, ◌<◌};
-ghost use Rattle.std.proofs.Math.Option.{some};
 ghost use Rattle.model.specs.declared.ThreadInfo.{ThreadInfo};
-ghost use Rattle.model.specs.Reading.{option_tid_meant};
 ghost use Rattle.state.specs.Memory.{memory};
 ghost use Rattle.state.specs.State.{Valid};
 ghost use Rattle.checks.specs.Check.{check_meant};
 ghost use Rattle.ticking.specs.Turns.{reports, Ran, TurnsDone, SpawnsDone, Lent};
 ghost use Rattle.ticking.specs.Load.{due, LoadDone};
 
-use model::{CallAnswer, CoreId, OptionTid, ThreadInfo, Tid};
+use model::{CoreId, ThreadInfo, Tid};
 use new_plan::Created;
 use sched_marks::marks::retired;
 use sched_new::new;
-use sched_threads::answers::SpawnAnswered;
 use sched_threads::spawn;
 use sched_tick::end_tick;
-use settings::SchedConfig;
+use settings::{Refusal, SchedConfig};
 use state::{Capacities, Sched};
-use tick_plan::Ticked;
 
 // What `new` answered, and what is left.
 #[derive(Clone, Copy)]
 pub struct Loaded {
-    pub made: CallAnswer,
+    pub made: Result<(), Refusal>,
     pub sched: Sched,
-}
-
-// The same, with the records.
-#[derive(Clone, Copy)]
-pub struct LoadedArray {
-    pub loaded: Loaded,
-    pub threads: [ThreadInfo; 256],
 }
 
 // Every core reports.
@@ -44,21 +33,12 @@ fn retired_all(s: Sched) -> Sched
     ensures { (ts : List ThreadInfo) (qs ps ls ws : List ℕ) → Valid s (memory ts qs ps ls ws) → Ran (reports s.cores) s result
         (memory ts qs ps ls ws) (memory ts qs ps ls ws) }
 {
-    let cores = s.cores;
     let mut next = s;
-    let mut core = 0;
-    while core < cores {
+    for core in 0..s.cores {
         let answered = retired(next, CoreId(core as u32));
         next = answered.sched;
-        core += 1;
     }
     next
-}
-
-fn sched_of(t: Ticked) -> Sched
-    ensures { result ≡ t.sched }
-{
-    t.sched
 }
 
 // So many ticks, each on what the one before left.
@@ -76,26 +56,12 @@ pub fn run_ticks(
         queue.old queue.new prios.now log.old log.new lanes.old lanes.new }
 {
     let mut last = first;
-    let mut i = 0;
-    while i < ticks {
+    for _ in 0..ticks {
         let reported = retired_all(last);
         let t = end_tick(reported, threads, queue, prios, log, lanes);
-        last = sched_of(t);
-        i += 1;
+        last = t.sched;
     }
     last
-}
-
-fn thread_0() -> OptionTid
-    ensures { option_tid_meant result ≡ some 0 }
-{
-    OptionTid::Some(Tid(0))
-}
-
-fn spawned_of(a: SpawnAnswered) -> Sched
-    ensures { result ≡ a.sched }
-{
-    a.sched
 }
 
 // Thread 0 spawns so many, each on what the one before left.
@@ -111,13 +77,11 @@ pub fn spawn_all(
     ensures { SpawnsDone count first result threads.old threads.new
         queue.old queue.new prios.old prios.new log.old log.new }
 {
-    let parent = thread_0();
+    let parent = Some(Tid(0));
     let mut last = first;
-    let mut i = 0;
-    while i < count {
+    for _ in 0..count {
         let a = spawn(last, parent, 0, threads, queue, prios, log);
-        last = spawned_of(a);
-        i += 1;
+        last = a.sched;
     }
     last
 }
@@ -126,24 +90,10 @@ pub fn spawn_all(
 fn calls_due(created: Created, n: usize) -> usize
     ensures { result ≡ due (check_meant created.answer) n }
 {
-    let answer = created.answer;
-    match answer {
-        CallAnswer::Taken => n,
-        CallAnswer::Refused(_) => 0,
+    match created.answer {
+        Ok(()) => n,
+        Err(_) => 0,
     }
-}
-
-fn made_of(created: Created) -> Sched
-    ensures { result ≡ created.sched }
-{
-    created.sched
-}
-
-fn load_of(created: Created, sched: Sched) -> Loaded
-    ensures { result ≡ record { made = created.answer; sched = sched } }
-{
-    let made = created.answer;
-    Loaded { made, sched }
 }
 
 // A scheduler is made, thread 0 spawns `count` threads, and `ticks` ticks pass.
@@ -166,48 +116,11 @@ pub fn run_load(
         config, cores, capacities, 0, threads, queue, prios, log, lanes,
     );
     let spawns = calls_due(created, count);
-    let fresh = made_of(created);
-    let first = spawn_all(fresh, spawns, threads, queue, prios, log);
+    let first = spawn_all(created.sched, spawns, threads, queue, prios, log);
     let turns = calls_due(created, ticks);
     let last = run_ticks(first, turns, threads, queue, prios, log, lanes);
-    load_of(created, last)
-}
-
-fn array_of(loaded: Loaded, threads: [ThreadInfo; 256]) -> LoadedArray
-    ensures { result ≡ record { loaded = loaded; threads = threads } }
-{
-    LoadedArray { loaded, threads }
-}
-
-// `run_load` for a host that holds the thread records in an array of its own: 256 records by value. Whoever calls it lends no record.
-pub fn run_load_in(
-    config: SchedConfig,
-    cores: u32,
-    capacities: Capacities,
-    count: usize,
-    ticks: usize,
-    threads: [ThreadInfo; 256],
-    queue: &mut [u32],
-    prios: &mut [u32],
-    log: &mut [u64],
-    lanes: &mut [u64],
-) -> LoadedArray
-    ensures { LoadDone config cores capacities count ticks
-        (memory threads queue.old prios.old log.old lanes.old)
-        (memory result.threads queue.new prios.new log.new lanes.new) result.loaded }
-{
-    let mut records = threads;
-    let loaded = run_load(
-        config,
-        cores,
-        capacities,
-        count,
-        ticks,
-        &mut records,
-        queue,
-        prios,
-        log,
-        lanes,
-    );
-    array_of(loaded, records)
+    Loaded {
+        made: created.answer,
+        sched: last,
+    }
 }

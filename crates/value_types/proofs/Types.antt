@@ -11,8 +11,6 @@ use Rattle.state.specs.contracts.Sched as T0
 use Rattle.state.proofs.Sched.TheLaws as L0
 use Rattle.model.specs.contracts.CoreId as T1
 use Rattle.model.proofs.CoreId.TheLaws as L1
-use Rattle.model.specs.contracts.OptionTid as T2
-use Rattle.model.proofs.OptionTid.TheLaws as L2
 use Rattle.model.specs.contracts.Tid as T3
 use Rattle.model.proofs.Tid.TheLaws as L3
 use Rattle.model.specs.contracts.Tick as T4
@@ -27,8 +25,6 @@ use Rattle.model.specs.contracts.ThreadInfo as T10
 use Rattle.model.proofs.ThreadInfo.TheLaws as L10
 use Rattle.model.specs.contracts.CoreState as T9
 use Rattle.model.proofs.CoreState.TheLaws as L9
-use Rattle.sched_marks.specs.contracts.Answered as T8
-use Rattle.sched_marks.proofs.Answered.TheLaws as L8
 
 module _ {M : Type 1} {𝓤 : Ura M} (𝓛 : Logic 𝓤) where
   abbrev pub word : ByVal 𝓛
@@ -46,9 +42,6 @@ module _ {M : Type 1} {𝓤 : Ura M} (𝓛 : Logic 𝓤) where
   abbrev pub core_id : ByVal 𝓛
   core_id = struct-by 𝓛 T1.the_type L1.the_laws L1.the_plain (λ x. tt) (λ x f. refl)
 
-  abbrev pub option_tid : ByVal 𝓛
-  option_tid = enum-by 𝓛 T2.the_type L2.the_laws L2.the_plain tt (λ x. tt) (λ x f. refl)
-
   abbrev pub tid : ByVal 𝓛
   tid = struct-by 𝓛 T3.the_type L3.the_laws L3.the_plain (λ x. tt) (λ x f. refl)
 
@@ -63,9 +56,6 @@ module _ {M : Type 1} {𝓤 : Ura M} (𝓛 : Logic 𝓤) where
 
   abbrev pub ticked : ByVal 𝓛
   ticked = struct-by 𝓛 T7.the_type L7.the_laws L7.the_plain (λ x. tt) (λ x f. refl)
-
-  abbrev pub answered : ByVal 𝓛
-  answered = struct-by 𝓛 T8.the_type L8.the_laws L8.the_plain (λ x. tt) (λ x f. refl)
 
   abbrev pub core_state : ByVal 𝓛
   core_state = enum-by 𝓛 T9.the_type L9.the_laws L9.the_plain tt (λ x. tt) (λ x f. refl)

@@ -1,12 +1,13 @@
 -- How many calls are due, by what `new` answered.
+use Rattle.std.specs.Prelude.{Result, Ok, Err}
+use Rattle.settings.specs.declared.Refusal.{Refusal}
 use mathlib.Core.Path.{sym, ap}
-use Rattle.model.specs.declared.CallAnswer.{CallAnswer}
 use Rattle.checks.specs.Check.{check_meant}
 use Rattle.ticking.specs.Load.{due}
 use Rattle.ticking.proofs.calls_due.Goals as goal
 
-pub returns-in-Taken : goal.returns-in-Taken
-returns-in-Taken c = ap (λ (x : CallAnswer). due (check_meant x) c.args.n) (sym c.in-Taken.is)
+pub returns-in-Ok : goal.returns-in-Ok
+returns-in-Ok c = ap (λ (x : Result Unit Refusal). due (check_meant x) c.args.n) (sym c.in-Ok.is)
 
-pub returns-in-Refused : goal.returns-in-Refused
-returns-in-Refused c = ap (λ (x : CallAnswer). due (check_meant x) c.args.n) (sym c.in-Refused.is)
+pub returns-in-Err : goal.returns-in-Err
+returns-in-Err c = ap (λ (x : Result Unit Refusal). due (check_meant x) c.args.n) (sym c.in-Err.is)

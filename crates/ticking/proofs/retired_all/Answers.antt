@@ -1,20 +1,19 @@
 -- The cores report one after the other.
-use borrow.Author.Rules.{rules}
 use native.Mathlib.Omega.{arith}
 use Rattle.ticking.proofs.Running.{reported-none, reported-next, reported-asks, reported-all}
 use Rattle.ticking.proofs.retired_all.Goals as goal
 
 pub loop-core-init : goal.loop-core-init
-loop-core-init c = (search rules, reported-none c.args.s)
+loop-core-init c = reported-none c.args.s
 
 pub overflow_cast-core : goal.overflow_cast-core
 overflow_cast-core c = record { fits = omega (arith, c.requires.valid.sizes.cores) }
 
 pub retired-answered-requires : goal.retired-answered-requires
-retired-answered-requires c = reported-asks _ _ _ c.requires c.loop-core.invariant.1
+retired-answered-requires c = reported-asks _ _ _ c.requires c.loop-core.invariant
 
 pub loop-core-preserved : goal.loop-core-preserved
-loop-core-preserved c = (search rules, reported-next _ _ _ _ c.loop-core.core c.loop-core.invariant.1 c.retired-answered.ensures)
+loop-core-preserved c = reported-next _ _ _ _ c.loop-core.core c.loop-core.invariant c.retired-answered.ensures
 
 pub returns : goal.returns
-returns c = reported-all _ _ _ (omega (arith, c.loop-core.invariant.0, c.loop-core-test.false)) c.loop-core.invariant.1
+returns c = reported-all _ _ _ (omega arith) c.loop-core.invariant
