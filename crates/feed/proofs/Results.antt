@@ -1,4 +1,6 @@
 -- What the callees of `feed` and `finish` leave, put together.
+use Rattle.std.specs.Prelude.{Result}
+use Rattle.settings.specs.declared.Refusal.{Refusal}
 use Prim.Native.Nat.{ℕ, ◌≤◌}
 use mathlib.Core.Path.{◌≡◌, sym, subst}
 use mathlib.Core.List.{List}
@@ -37,7 +39,7 @@ pub roomy-kept : (ts ts' : List ThreadInfo) (qs qs' ps ps' ls ls' ws ws' : List 
 roomy-kept ts ts' qs qs' ps ps' ls ls' ws ws' l k = record { threads = rw l.threads k.threads; queue = rw l.queue k.queue; prios = rw l.prios k.prios; log = rw l.log k.log; lanes = rw l.lanes k.lanes }
 
 module _ (r : Report) (line : List ℕ) (ts : List ThreadInfo) (qs ps ls ws : List ℕ) (v : ReportValid r ts qs ps ls ws) where
-  module _ (x : Line) (k : LineRead r line x) where
+  module _ (x : Result Line Refusal) (k : LineRead r line x) where
     read-says : Definition.feed (report_meant r ts qs ls ws) line ≡ fed_of (report_meant r ts qs ls ws) x
     unfolding report_meant
     read-says = k.says (meant_at r.sched ts qs ls ws)

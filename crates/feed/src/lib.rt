@@ -11,17 +11,18 @@ ghost use Rattle.feed_plan.specs.Feeding.{LineAsked, LineDone, FeedDone};
 
 use feed_plan::reading::read_line;
 use feed_plan::saying::{put_end, put_next, record_count};
-use feed_plan::steps::{capacities, of_applied, of_created, of_plain, sched_of};
+use feed_plan::steps::{capacities, headed, of_applied, of_created, quiet, refused};
 use feed_plan::{Fed, Line, Next, Report};
 use model::ThreadInfo;
 use sched::apply;
 use sched_new::new;
+use settings::Refusal;
 use threads::totals;
 
 // What a line that was read makes of the report: the scheduler is made, or called, or left as it is.
 pub fn advance(
     r: Report,
-    line: Line,
+    line: Result<Line, Refusal>,
     threads: &mut [ThreadInfo],
     queue: &mut [u32],
     prios: &mut [u32],
@@ -32,8 +33,10 @@ pub fn advance(
     ensures { LineDone r line threads.old threads.new queue.old queue.new prios.old prios.new log.old log.new lanes.old lanes.new result }
 {
     match line {
-        Line::Plain(plain) => of_plain(r, plain),
-        Line::Start { config, cores } => {
+        Err(k) => refused(r, k),
+        Ok(Line::Nothing) => quiet(r),
+        Ok(Line::Head(head)) => headed(r, head),
+        Ok(Line::Start { config, cores }) => {
             of_created(
                 r,
                 new(
@@ -49,11 +52,8 @@ pub fn advance(
                 ),
             )
         }
-        Line::Call(call) => {
-            of_applied(
-                r,
-                apply(sched_of(r), call, threads, queue, prios, log, lanes),
-            )
+        Ok(Line::Call(call)) => {
+            of_applied(r, apply(r.sched, call, threads, queue, prios, log, lanes))
         }
     }
 }
@@ -83,7 +83,6 @@ pub fn finish(r: Report, out: &mut [u8], threads: &[ThreadInfo]) -> usize
     ensures { (qs ps ls ws : List ℕ) → ReportValid r threads.now qs ps ls ws
         → Put out.old 0 (Report·finish (report_meant r threads.now qs ls ws)) out.new result }
 {
-    let n = record_count(r);
-    let sums = totals(threads, n);
+    let sums = totals(threads, record_count(r));
     put_end(r, sums, out)
 }

@@ -1,4 +1,5 @@
 -- What the parts of a line put together make: the definition's next report, and what it prints.
+use Rattle.std.specs.Prelude.{Ok, Err, Result}
 use Prim.Native.Nat.{ℕ, zero, suc, ◌+◌, ◌*◌, ◌≤◌}
 use mathlib.Core.Path.{◌≡◌, refl, sym, ap, ◌∙◌, subst}
 use mathlib.Core.Bool.{false}
@@ -16,8 +17,6 @@ use Rattle.rcfg.specs.declared.Head as Heads
 use Rattle.rcfg.specs.Reading.{head_meant}
 use Rattle.script.specs.Invariants.{Kept}
 use Rattle.model.specs.declared.ThreadInfo.{ThreadInfo}
-use Rattle.model.specs.declared.CallAnswer.{CallAnswer}
-use Rattle.model.specs.declared.CallAnswer.TheVariants as CallCases
 use Rattle.model.specs.Types.{State}
 use Rattle.model.specs.Calls as Calls
 use Rattle.model.specs.Calls.{check, refused_new, made_of, new, unmade, made, step}
@@ -42,14 +41,12 @@ use Rattle.script.proofs.Room.{call_room, line_room, feed-well}
 use Rattle.feed_plan.specs.declared.Stage.{Stage}
 use Rattle.feed_plan.specs.declared.Stage.TheVariants as StageCases
 use Rattle.feed_plan.specs.declared.Report.{Report}
-use Rattle.feed_plan.specs.declared.Plain.{Plain}
-use Rattle.feed_plan.specs.declared.Plain.TheVariants as PlainCases
 use Rattle.feed_plan.specs.declared.Line.{Line}
 use Rattle.feed_plan.specs.declared.Line.TheVariants as LineCases
 use Rattle.feed_plan.specs.declared.Next.{Next}
 use Rattle.feed_plan.specs.declared.Fed.{Fed}
 use Rattle.feed_plan.specs.Meant.{stage_meant, lines_in, counting, report_meant, Few, Held, Roomy, ReportValid}
-use Rattle.feed_plan.specs.Steps.{after_refusal, step_in, fed_of, Counts, Rests, Fits, report_capacities, refused_stage, refused_next, plain_next, created_next, answered_next, applied_next, next_text}
+use Rattle.feed_plan.specs.Steps.{after_refusal, step_in, fed_of, Counts, Rests, Fits, report_capacities, refused_stage, quiet_next, refused_next, headed_next, created_next, answered_next, applied_next, next_text}
 use Rattle.feed_plan.specs.Feeding.{LineAsked, LineDone, Sayable, SaidAs, FeedDone}
 
 ---- a line that leaves the scheduler as it is
@@ -88,8 +85,8 @@ module _ (s : Sched) (ts : List ThreadInfo) (qs ps ls ws : List ℕ) where
   refused-held StageCases.Over k = tt
 
 module _ (r : Report) (ts : List ThreadInfo) (qs ps ls ws : List ℕ) where
-  refused-done : (k : Refusal) (l : Line) → Counts r.stage → r.lines ≤ 1_000_000_000_000 → Held r.stage r.sched ts qs ps ls ws
-      → fed_of (report_meant r ts qs ls ws) l ≡ fed_of (report_meant r ts qs ls ws) (LineCases.Plain (PlainCases.Refused k)) → LineDone r l ts ts qs qs ps ps ls ls ws ws (refused_next r k)
+  pub refused-done : (k : Refusal) (l : Result Line Refusal) → Counts r.stage → r.lines ≤ 1_000_000_000_000 → Held r.stage r.sched ts qs ps ls ws
+      → fed_of (report_meant r ts qs ls ws) l ≡ fed_of (report_meant r ts qs ls ws) (Err k) → LineDone r l ts ts qs qs ps ps ls ls ws ws (refused_next r k)
   unfolding report_meant next_text answer_text no_switches
   refused-done k l c f h e =
       let g : Definition.Stage = stage_meant r.stage r.head (meant_at r.sched ts qs ls ws) in
@@ -101,11 +98,13 @@ module _ (r : Report) (ts : List ThreadInfo) (qs ps ls ws : List ℕ) where
         listed = omega arith;
       }
 
-  pub plain_done : (p : Plain) → LineAsked r (LineCases.Plain p) ts qs ps ls ws → LineDone r (LineCases.Plain p) ts ts qs qs ps ps ls ls ws ws (plain_next r p)
+  pub quiet_done : LineAsked r (Ok LineCases.Nothing) ts qs ps ls ws → LineDone r (Ok LineCases.Nothing) ts ts qs qs ps ps ls ls ws ws (quiet_next r)
   unfolding report_meant next_text answer_text no_switches
-  plain_done PlainCases.Nothing a = record { report = rests r.head (meant_at r.sched ts qs ls ws) r.lines r.stage a.fits; text = refl; held = a.held; number = omega arith; listed = omega arith }
-  plain_done (PlainCases.Refused k) a = refused-done k (LineCases.Plain (PlainCases.Refused k)) a.fits.0 a.fits.1 a.held refl
-  plain_done (PlainCases.Head h) a =
+  quiet_done a = record { report = rests r.head (meant_at r.sched ts qs ls ws) r.lines r.stage a.fits; text = refl; held = a.held; number = omega arith; listed = omega arith }
+
+  headed_done : (h : Heads.Head) → LineAsked r (Ok (LineCases.Head h)) ts qs ps ls ws → LineDone r (Ok (LineCases.Head h)) ts ts qs qs ps ps ls ls ws ws (headed_next r h)
+  unfolding report_meant next_text answer_text no_switches
+  headed_done h a =
       record {
         report = ap (λ (m : ℕ). record { lines = m; stage = heads (head_meant h) }) (in-heads r.head (meant_at r.sched ts qs ls ws) r.lines r.stage a.fits.0);
         text = refl;
@@ -113,6 +112,10 @@ module _ (r : Report) (ts : List ThreadInfo) (qs ps ls ws : List ℕ) where
         number = omega arith;
         listed = omega arith;
       }
+
+  -- the same of a line that is known to be one
+  pub headed-left : (l : Result Line Refusal) (h : Heads.Head) (y : Next) → l ≡ Ok (LineCases.Head h) → y ≡ headed_next r h → LineAsked r l ts qs ps ls ws → LineDone r l ts ts qs qs ps ps ls ls ws ws y
+  headed-left l h y e q a = rw (e, q) (headed_done h (subst (λ (x : Result Line Refusal). LineAsked r x ts qs ps ls ws) e a))
 
 ---- the scheduler is made
 
@@ -141,7 +144,7 @@ module _ (c : SchedConfig) (n : ℕ) (ts : List ThreadInfo) (qs ps ls ws : List 
 
 module _ (r : Report) (c : SchedConfig) (n : ℕ) (ts ts' : List ThreadInfo) (qs ps ps' ls ls' ws : List ℕ) where
   start-taken : (s : Sched) → r.stage ≡ StageCases.Heads → r.lines ≤ 1_000_000_000_000 → NewTaken c n report_capacities 0 (memory ts qs ps ls ws) (memory ts' qs ps' ls' ws) s
-      → LineDone r (LineCases.Start c n) ts ts' qs qs ps ps' ls ls' ws ws (answered_next r s CallCases.Taken)
+      → LineDone r (Ok (LineCases.Start c n)) ts ts' qs qs ps ps' ls ls' ws ws (answered_next r s (Ok tt))
   unfolding report_meant next_text answer_text begun created no_switches
   start-taken s e f t =
       record {
@@ -152,20 +155,20 @@ module _ (r : Report) (c : SchedConfig) (n : ℕ) (ts ts' : List ThreadInfo) (qs
         listed = omega arith;
       }
 
-  start-refused : (k : Refusal) → LineAsked r (LineCases.Start c n) ts qs ps ls ws → new_refusal c n report_capacities (length ts) (length qs) (length ps) (length ls) (length ws) ≡ some (refusal_number k)
-      → LineDone r (LineCases.Start c n) ts ts qs qs ps ps ls ls ws ws (refused_next r k)
+  start-refused : (k : Refusal) → LineAsked r (Ok (LineCases.Start c n)) ts qs ps ls ws → new_refusal c n report_capacities (length ts) (length qs) (length ps) (length ls) (length ws) ≡ some (refusal_number k)
+      → LineDone r (Ok (LineCases.Start c n)) ts ts qs qs ps ps ls ls ws ws (refused_next r k)
   unfolding report_meant begun created new made_of
   start-refused k a e =
-      refused-done r ts qs ps ls ws k (LineCases.Start c n) (subst Counts (sym a.fits.0) tt) a.fits.1 a.held
+      refused-done r ts qs ps ls ws k (Ok (LineCases.Start c n)) (subst Counts (sym a.fits.0) tt) a.fits.1 a.held
       (rw (made-refused c n ts qs ps ls ws a.memory (refusal_number k) e, a.fits.0))
 
-  pub start-done : (x : Created) → LineAsked r (LineCases.Start c n) ts qs ps ls ws → NewDone c n report_capacities 0 (memory ts qs ps ls ws) (memory ts' qs ps' ls' ws) x.sched x.answer
-      → LineDone r (LineCases.Start c n) ts ts' qs qs ps ps' ls ls' ws ws (created_next r x)
+  pub start-done : (x : Created) → LineAsked r (Ok (LineCases.Start c n)) ts qs ps ls ws → NewDone c n report_capacities 0 (memory ts qs ps ls ws) (memory ts' qs ps' ls' ws) x.sched x.answer
+      → LineDone r (Ok (LineCases.Start c n)) ts ts' qs qs ps ps' ls ls' ws ws (created_next r x)
   start-done x a d = go x.answer refl
     where
-      go : (y : CallAnswer) → x.answer ≡ y → LineDone r (LineCases.Start c n) ts ts' qs qs ps ps' ls ls' ws ws (answered_next r x.sched y)
-      go CallCases.Taken e = start-taken x.sched a.fits.0 a.fits.1 (d.taken (ap check_meant e))
-      go (CallCases.Refused k) e =
+      go : (y : Result Unit Refusal) → x.answer ≡ y → LineDone r (Ok (LineCases.Start c n)) ts ts' qs qs ps ps' ls ls' ws ws (answered_next r x.sched y)
+      go (Ok tt) e = start-taken x.sched a.fits.0 a.fits.1 (d.taken (ap check_meant e))
+      go (Err k) e =
           let g = d.refused (refusal_number k) (ap check_meant e) in
           rw (g.0, g.2, g.3) (start-refused k a (sym d.answer ∙ ap check_meant e))
 
@@ -180,8 +183,8 @@ stepped-report n m s t p q = λ i. record { lines = p i; stage = calls (q i) }
 stepped-text : (n m : ℕ) (s t : State) (a b : Calls.Answer) → n ≡ m → s ≡ t → a ≡ b → answer_text n s.now a ≡ answer_text m t.now b
 stepped-text n m s t a b p q w = λ i. answer_text (p i) (q i).now (w i)
 
-pub call-done : (r : Report) (c : Call) (x : Applied) (ts ts' : List ThreadInfo) (qs qs' ps ps' ls ls' ws ws' : List ℕ) → LineAsked r (LineCases.Call c) ts qs ps ls ws
-    → DoneWith (call_meant c) (outcome_meant x.outcome x.switches) x.switches r.sched x.sched (memory ts qs ps ls ws) (memory ts' qs' ps' ls' ws') → LineDone r (LineCases.Call c) ts ts' qs qs' ps ps' ls ls' ws ws' (applied_next r x)
+pub call-done : (r : Report) (c : Call) (x : Applied) (ts ts' : List ThreadInfo) (qs qs' ps ps' ls ls' ws ws' : List ℕ) → LineAsked r (Ok (LineCases.Call c)) ts qs ps ls ws
+    → DoneWith (call_meant c) (outcome_meant x.outcome x.switches) x.switches r.sched x.sched (memory ts qs ps ls ws) (memory ts' qs' ps' ls' ws') → LineDone r (Ok (LineCases.Call c)) ts ts' qs qs' ps ps' ls ls' ws ws' (applied_next r x)
 unfolding report_meant next_text said meant_at
 call-done r c x ts ts' qs qs' ps ps' ls ls' ws ws' a t =
     let d = t.done in
@@ -238,13 +241,13 @@ module _ (r : Report) (line : List ℕ) (ts : List ThreadInfo) (qs ps ls ws : Li
   unfolding report_meant
   lines-few = few-in r.stage r.head (meant_at r.sched ts qs ls ws) r.lines v.kept
 
-  pub line-asked : (l : Line) → Fits r l → LineAsked r l ts qs ps ls ws
+  pub line-asked : (l : Result Line Refusal) → Fits r l → LineAsked r l ts qs ps ls ws
   line-asked l f = record { fits = f; memory = v.memory; held = v.held }
 
   abbrev d : Definition.Report
   d = report_meant r ts qs ls ws
 
-  module _ (l : Line) (ts' : List ThreadInfo) (qs' ps' ls' ws' : List ℕ) (x : Next) (e : feed d line ≡ fed_of d l) (k : LineDone r l ts ts' qs qs' ps ps' ls ls' ws ws' x) where
+  module _ (l : Result Line Refusal) (ts' : List ThreadInfo) (qs' ps' ls' ws' : List ℕ) (x : Next) (e : feed d line ≡ fed_of d l) (k : LineDone r l ts ts' qs qs' ps ps' ls ls' ws ws' x) where
     same_text : next_text x ≡ (feed d line).out
     same_text = k.text ∙ sym (ap (λ (f : Definition.Fed). f.out) e)
 

@@ -1,6 +1,9 @@
 -- What a line that was read says of the definition's `feed`: one law for each way that the program leaves.
+use Rattle.std.specs.Prelude.{Ok, Err, Result}
+use Rattle.std.specs.Result.{IsErrAnd}
 use Prim.Native.Nat.{ℕ, suc, ◌-◌, ◌≤◌, ◌<◌}
-use mathlib.Core.Path.{◌≡◌, subst, sym}
+use mathlib.Core.Path.{◌≡◌, subst, sym, ap}
+use mathlib.Core.Logic.{◌⊎◌, inl, inr}
 use mathlib.Core.Bool.{Bool, true, false, cond}
 use mathlib.Core.Option.{Option, none, some}
 use mathlib.Core.List.{List, []}
@@ -12,6 +15,7 @@ use Rattle.text.specs.Lines.{bad, good, line_of}
 use Rattle.text.specs.Searches.{line_if}
 use Rattle.text.proofs.Trimming.{line-some}
 use Rattle.settings.specs.Settings.{Settings, Head}
+use Rattle.settings.specs.declared.Refusal.{Refusal}
 use Rattle.rcfg.specs.Reading.{head_meant}
 use Rattle.model.specs.Types.{State}
 use Rattle.model.specs.Calls.{Call, step}
@@ -20,11 +24,17 @@ use Rattle.script.specs.Report.{heads, calls, ended, over, at, refused_text, cre
 use Rattle.feed_plan.specs.declared.Stage.{Stage}
 use Rattle.feed_plan.specs.declared.Stage.TheVariants as StageCases
 use Rattle.feed_plan.specs.declared.Report.{Report}
-use Rattle.feed_plan.specs.declared.Plain.TheVariants as PlainCases
 use Rattle.feed_plan.specs.declared.Line.{Line}
 use Rattle.feed_plan.specs.declared.Line.TheVariants as LineCases
 use Rattle.feed_plan.specs.Meant.{report_at, Few}
-use Rattle.feed_plan.specs.Steps.{fed_by, fed_of, Fits, Counts, HeadSays, CallSays}
+use Rattle.feed_plan.specs.Feeding.{LineRead}
+use Rattle.feed_plan.specs.Steps.{fed_by, fed_of, Fits, Counts, Rests, HeadSays, CallSays}
+
+---- a refusal that is handed on
+
+pub handed : (x : Result Line Refusal) (k : Refusal) → IsErrAnd x (λ y. y ≡ k) → x ≡ Err k
+handed (Ok l) k h = absurd h
+handed (Err y) k h = ap Err h
 
 ---- the lines that are read
 
@@ -82,7 +92,7 @@ module _ (n : ℕ) (l : List ℕ) (r : Bool) (e : line_at n l ≡ line_if r l) w
 
 ---- in the report's stage
 
-module _ (r : Report) (piece : List ℕ) (l : Line) where
+module _ (r : Report) (piece : List ℕ) (l : Result Line Refusal) where
   pub heads-feed : r.stage ≡ StageCases.Heads → ((n : ℕ) → fed n (heads (head_meant r.head)) (line_at (suc r.lines) piece) ≡ fed_by n (heads (head_meant r.head)) l) → (s : State) → feed (report_at r s) piece ≡ fed_of (report_at r s) l
   unfolding feed
   heads-feed e h s = rw e (h (suc r.lines))
@@ -91,13 +101,10 @@ module _ (r : Report) (piece : List ℕ) (l : Line) where
   unfolding feed
   calls-feed e h s = rw e (h (suc r.lines) s)
 
-pub ended-feed : (r : Report) (piece : List ℕ) → r.stage ≡ StageCases.Ended → (s : State) → feed (report_at r s) piece ≡ fed_of (report_at r s) (LineCases.Plain PlainCases.Nothing)
+pub rests-read : (r : Report) (piece : List ℕ) → (r.stage ≡ StageCases.Ended) ⊎ (r.stage ≡ StageCases.Over) → LineRead r piece (Ok LineCases.Nothing)
 unfolding feed fed
-ended-feed r piece e s = rw e
-
-pub over-feed : (r : Report) (piece : List ℕ) → r.stage ≡ StageCases.Over → (s : State) → feed (report_at r s) piece ≡ fed_of (report_at r s) (LineCases.Plain PlainCases.Nothing)
-unfolding feed fed
-over-feed r piece e s = rw e
+rests-read r piece (inl e) = record { says = λ s. rw e; fits = subst Rests (sym e) tt }
+rests-read r piece (inr e) = record { says = λ s. rw e; fits = subst Rests (sym e) tt }
 
 few-heads : (g : Stage) (n : ℕ) → g ≡ StageCases.Heads → Few g n → n ≤ 1_000_000_000_000
 few-heads g n e h = subst (λ (x : Stage). Few x n) e h
@@ -105,16 +112,16 @@ few-heads g n e h = subst (λ (x : Stage). Few x n) e h
 few-calls : (g : Stage) (n : ℕ) → g ≡ StageCases.Calls → Few g n → n ≤ 1_000_000_000_000
 few-calls g n e h = subst (λ (x : Stage). Few x n) e h
 
-pub heads-fit : (r : Report) (l : Line) → r.stage ≡ StageCases.Heads → Few r.stage r.lines → HeadSays l → Fits r l
-heads-fit r (LineCases.Plain PlainCases.Nothing) e f h = absurd h
-heads-fit r (LineCases.Plain (PlainCases.Refused k)) e f h = (subst Counts (sym e) tt, few-heads r.stage r.lines e f)
-heads-fit r (LineCases.Plain (PlainCases.Head x)) e f h = (e, few-heads r.stage r.lines e f)
-heads-fit r (LineCases.Start c n) e f h = (e, few-heads r.stage r.lines e f)
-heads-fit r (LineCases.Call c) e f h = absurd h
+pub heads-fit : (r : Report) (l : Result Line Refusal) → r.stage ≡ StageCases.Heads → Few r.stage r.lines → HeadSays l → Fits r l
+heads-fit r (Err k) e f h = (subst Counts (sym e) tt, few-heads r.stage r.lines e f)
+heads-fit r (Ok LineCases.Nothing) e f h = absurd h
+heads-fit r (Ok (LineCases.Head x)) e f h = (e, few-heads r.stage r.lines e f)
+heads-fit r (Ok (LineCases.Start c n)) e f h = (e, few-heads r.stage r.lines e f)
+heads-fit r (Ok (LineCases.Call c)) e f h = absurd h
 
-pub calls-fit : (r : Report) (l : Line) → r.stage ≡ StageCases.Calls → Few r.stage r.lines → CallSays l → Fits r l
-calls-fit r (LineCases.Plain PlainCases.Nothing) e f h = absurd h
-calls-fit r (LineCases.Plain (PlainCases.Refused k)) e f h = (subst Counts (sym e) tt, few-calls r.stage r.lines e f)
-calls-fit r (LineCases.Plain (PlainCases.Head x)) e f h = absurd h
-calls-fit r (LineCases.Start c n) e f h = absurd h
-calls-fit r (LineCases.Call c) e f h = (e, few-calls r.stage r.lines e f)
+pub calls-fit : (r : Report) (l : Result Line Refusal) → r.stage ≡ StageCases.Calls → Few r.stage r.lines → CallSays l → Fits r l
+calls-fit r (Err k) e f h = (subst Counts (sym e) tt, few-calls r.stage r.lines e f)
+calls-fit r (Ok LineCases.Nothing) e f h = absurd h
+calls-fit r (Ok (LineCases.Head x)) e f h = absurd h
+calls-fit r (Ok (LineCases.Start c n)) e f h = absurd h
+calls-fit r (Ok (LineCases.Call c)) e f h = (e, few-calls r.stage r.lines e f)

@@ -1,6 +1,8 @@
 -- What is put of a line and at the end of a script, arm by arm.
+use Rattle.std.specs.Prelude.{Ok, Err}
 use Prim.Native.Nat.{ℕ, suc, ◌+◌, ◌≤◌}
 use mathlib.Core.Path.{◌≡◌, ap, ◌∙◌, subst}
+use mathlib.Core.Logic.{◌⊎◌, inl, inr}
 use mathlib.Core.List.{List, []}
 use native.Mathlib.Omega.{arith}
 use lib.ListN.{length}
@@ -29,27 +31,27 @@ use Rattle.feed_plan.proofs.Feeding.{lines-few}
 ---- what is printed
 
 module _ (x : Next) where
-  pub text-refused : (k : Refusal) → x.outcome ≡ OutcomeCases.Refused k → refused_text x.line (refusal_number k) ≡ next_text x
+  pub text-refused : (k : Refusal) → x.outcome ≡ Err k → refused_text x.line (refusal_number k) ≡ next_text x
   unfolding next_text answer_text
   text-refused k e = rw e
 
-  pub text-joined : (j : JoinOutcome) → x.outcome ≡ OutcomeCases.Joined j → joined_text x.line (join_meant j) ≡ next_text x
+  pub text-joined : (j : JoinOutcome) → x.outcome ≡ Ok (OutcomeCases.Joined j) → joined_text x.line (join_meant j) ≡ next_text x
   unfolding next_text answer_text
   text-joined j e = rw e
 
-  pub text-switched : x.outcome ≡ OutcomeCases.Switched → switch_texts x.report.sched.now.0 (switches_meant x.switches.entries x.switches.count) ≡ next_text x
+  pub text-switched : x.outcome ≡ Ok OutcomeCases.Switched → switch_texts x.report.sched.now.0 (switches_meant x.switches.entries x.switches.count) ≡ next_text x
   unfolding next_text answer_text
   text-switched e = rw e
 
-  pub text-taken : x.outcome ≡ OutcomeCases.Taken → [] ≡ next_text x
+  pub text-taken : x.outcome ≡ Ok OutcomeCases.Taken → [] ≡ next_text x
   unfolding next_text answer_text
   text-taken e = rw e
 
-  pub text-spawned : (t : Tid) → x.outcome ≡ OutcomeCases.Spawned t → [] ≡ next_text x
+  pub text-spawned : (t : Tid) → x.outcome ≡ Ok (OutcomeCases.Spawned t) → [] ≡ next_text x
   unfolding next_text answer_text
   text-spawned t e = rw e
 
-  pub switches-room : (n : ℕ) → x.outcome ≡ OutcomeCases.Switched → length (next_text x) ≤ n → 0 + length (switch_texts x.report.sched.now.0 (switches_meant x.switches.entries x.switches.count)) ≤ n
+  pub switches-room : (n : ℕ) → x.outcome ≡ Ok OutcomeCases.Switched → length (next_text x) ≤ n → 0 + length (switch_texts x.report.sched.now.0 (switches_meant x.switches.entries x.switches.count)) ≤ n
   switches-room n e h = rw (text-switched e) (omega arith)
 
 ---- the end of a script
@@ -62,11 +64,15 @@ module _ (r : Report) where
   end-few n b a e = few-at r.lines r.stage e (lines-few r [] a.ts a.qs a.ps a.ls a.ws a.fits.valid)
 
   module _ (n : Totals) (ts : List ThreadInfo) (qs ps ls ws : List ℕ) (f : EndFits r n ts qs ps ls ws) where
-    pub calls-summed : r.stage ≡ StageCases.Calls → Summed r.sched n ts qs ps ls ws
+    calls-summed : r.stage ≡ StageCases.Calls → Summed r.sched n ts qs ps ls ws
     calls-summed e = record { valid = subst (λ (x : Stage). Held x r.sched ts qs ps ls ws) e f.valid.held; totals = f.totals ∙ ap (λ (x : Stage). totals_of (threads_in ts (records_in x r.sched))) e }
 
-    pub ended-summed : r.stage ≡ StageCases.Ended → Summed r.sched n ts qs ps ls ws
+    ended-summed : r.stage ≡ StageCases.Ended → Summed r.sched n ts qs ps ls ws
     ended-summed e = record { valid = subst (λ (x : Stage). Held x r.sched ts qs ps ls ws) e f.valid.held; totals = f.totals ∙ ap (λ (x : Stage). totals_of (threads_in ts (records_in x r.sched))) e }
+
+    pub end-summed : (r.stage ≡ StageCases.Calls) ⊎ (r.stage ≡ StageCases.Ended) → Summed r.sched n ts qs ps ls ws
+    end-summed (inl e) = calls-summed e
+    end-summed (inr e) = ended-summed e
 
   module _ (ts : List ThreadInfo) (qs ls ws : List ℕ) where
     one_more : (n : ℕ) → n + 1 ≡ suc n
@@ -76,13 +82,10 @@ module _ (r : Report) where
     unfolding finish finishing report_meant
     end-heads e = rw e (ap (λ (m : ℕ). refused_text m 6) (one_more r.lines))
 
-    pub end-calls : r.stage ≡ StageCases.Calls → summary (meant_at r.sched ts qs ls ws) ≡ finish (report_meant r ts qs ls ws)
+    pub end-summary : (r.stage ≡ StageCases.Calls) ⊎ (r.stage ≡ StageCases.Ended) → summary (meant_at r.sched ts qs ls ws) ≡ finish (report_meant r ts qs ls ws)
     unfolding finish finishing report_meant
-    end-calls e = rw e
-
-    pub end-ended : r.stage ≡ StageCases.Ended → summary (meant_at r.sched ts qs ls ws) ≡ finish (report_meant r ts qs ls ws)
-    unfolding finish finishing report_meant
-    end-ended e = rw e
+    end-summary (inl e) = rw e
+    end-summary (inr e) = rw e
 
     pub end-over : r.stage ≡ StageCases.Over → [] ≡ finish (report_meant r ts qs ls ws)
     unfolding finish finishing report_meant

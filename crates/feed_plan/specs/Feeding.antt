@@ -1,5 +1,6 @@
 -- What the program promises for a line.
-use Rattle.std.specs.Prelude.{ℕ, ◌≤◌, ◌≡◌, List, length}
+use Rattle.std.specs.Prelude.{ℕ, ◌≤◌, ◌≡◌, List, length, Result}
+use Rattle.settings.specs.declared.Refusal.{Refusal}
 use Rattle.text.specs.Buffers.{Put}
 use Rattle.model.specs.declared.ThreadInfo.{ThreadInfo}
 use Rattle.model.specs.Types.{State}
@@ -22,7 +23,7 @@ pub record Starts (r : Report) : Type 0 where
   pub valid : (ts : List ThreadInfo) (qs ps ls ws : List ℕ) → Roomy ts qs ps ls ws → ReportValid r ts qs ps ls ws
 
 -- a line, its byte 10 included, says in the report's stage what the definition's `feed` makes of it
-pub record LineRead (r : Report) (piece : List ℕ) (l : Line) : Type 0 where
+pub record LineRead (r : Report) (piece : List ℕ) (l : Result Line Refusal) : Type 0 where
   pub says : (s : State) → Definition.feed (report_at r s) piece ≡ fed_of (report_at r s) l
   pub fits : Fits r l
 
@@ -34,13 +35,13 @@ abbrev pub report_of : Reader → Sched → Report
 report_of k s = record { lines = k.lines; stage = k.stage; head = k.head; sched = s }
 
 -- what taking a line that was read asks
-pub record LineAsked (r : Report) (l : Line) (ts : List ThreadInfo) (qs ps ls ws : List ℕ) : Type 0 where
+pub record LineAsked (r : Report) (l : Result Line Refusal) (ts : List ThreadInfo) (qs ps ls ws : List ℕ) : Type 0 where
   pub fits : Fits r l
   pub memory : Roomy ts qs ps ls ws
   pub held : Held r.stage r.sched ts qs ps ls ws
 
 -- and leaves: the definition's next report, and what it prints
-pub record LineDone (r : Report) (l : Line) (ts ts' : List ThreadInfo) (qs qs' ps ps' ls ls' ws ws' : List ℕ) (x : Next) : Type 0 where
+pub record LineDone (r : Report) (l : Result Line Refusal) (ts ts' : List ThreadInfo) (qs qs' ps ps' ls ls' ws ws' : List ℕ) (x : Next) : Type 0 where
   pub report : report_meant x.report ts' qs' ls' ws' ≡ counting (fed_of (report_meant r ts qs ls ws) l).report
   pub text : next_text x ≡ (fed_of (report_meant r ts qs ls ws) l).out
   pub held : Held x.report.stage x.report.sched ts' qs' ps' ls' ws'

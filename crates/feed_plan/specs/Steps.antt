@@ -1,11 +1,9 @@
 -- What a line that was read makes of a report, in the definition and in the program.
-use Rattle.std.specs.Prelude.{ℕ, suc, ◌+◌, ◌≤◌, ◌≡◌, List, []}
+use Rattle.std.specs.Prelude.{ℕ, suc, ◌+◌, ◌≤◌, ◌≡◌, List, [], Ok, Err, Result}
 use Rattle.settings.specs.declared.Refusal.{Refusal}
 use Rattle.settings.specs.Reading.{refusal_number, settings_meant}
 use Rattle.rcfg.specs.declared.Head as Heads
 use Rattle.rcfg.specs.Reading.{head_meant}
-use Rattle.model.specs.declared.CallAnswer.{CallAnswer}
-use Rattle.model.specs.declared.CallAnswer.TheVariants as CallCases
 use Rattle.model.specs.Calls as Calls
 use Rattle.state.specs.declared.Capacities.{Capacities}
 use Rattle.state.specs.declared.Sched.{Sched}
@@ -20,8 +18,6 @@ use Rattle.script.specs.Report as Definition
 use Rattle.feed_plan.specs.declared.Stage.{Stage}
 use Rattle.feed_plan.specs.declared.Stage.TheVariants as StageCases
 use Rattle.feed_plan.specs.declared.Report.{Report}
-use Rattle.feed_plan.specs.declared.Plain.{Plain}
-use Rattle.feed_plan.specs.declared.Plain.TheVariants as PlainCases
 use Rattle.feed_plan.specs.declared.Line.{Line}
 use Rattle.feed_plan.specs.declared.Line.TheVariants as LineCases
 use Rattle.feed_plan.specs.declared.Next.{Next}
@@ -41,17 +37,14 @@ step_in n (Definition.calls s) c = Definition.said n (Calls.step s c)
 step_in n (Definition.ended s) c = Definition.at n (Definition.ended s) []
 step_in n Definition.over c = Definition.at n Definition.over []
 
-abbrev pub plain_by : (line : ℕ) → Definition.Stage → Plain → Definition.Fed
-plain_by n g PlainCases.Nothing = Definition.at n g []
-plain_by n g (PlainCases.Refused k) = Definition.at n (after_refusal g) (Definition.refused_text n (refusal_number k))
-plain_by n g (PlainCases.Head h) = Definition.at n (Definition.heads (head_meant h)) []
+abbrev pub fed_by : (line : ℕ) → Definition.Stage → Result Line Refusal → Definition.Fed
+fed_by n g (Err k) = Definition.at n (after_refusal g) (Definition.refused_text n (refusal_number k))
+fed_by n g (Ok LineCases.Nothing) = Definition.at n g []
+fed_by n g (Ok (LineCases.Head h)) = Definition.at n (Definition.heads (head_meant h)) []
+fed_by n g (Ok (LineCases.Start c cores)) = Definition.begun n (Definition.created (settings_meant c) cores)
+fed_by n g (Ok (LineCases.Call c)) = step_in n g (call_meant c)
 
-abbrev pub fed_by : (line : ℕ) → Definition.Stage → Line → Definition.Fed
-fed_by n g (LineCases.Plain p) = plain_by n g p
-fed_by n g (LineCases.Start c cores) = Definition.begun n (Definition.created (settings_meant c) cores)
-fed_by n g (LineCases.Call c) = step_in n g (call_meant c)
-
-abbrev pub fed_of : Definition.Report → Line → Definition.Fed
+abbrev pub fed_of : Definition.Report → Result Line Refusal → Definition.Fed
 fed_of d l = fed_by (suc d.lines) d.stage l
 
 ---- where a line may say what
@@ -75,29 +68,26 @@ Prints StageCases.Calls = Unit {0}
 Prints StageCases.Ended = Unit {0}
 Prints StageCases.Over = ⊥
 
-abbrev pub HeadSays : Line → Type 0
-HeadSays (LineCases.Plain PlainCases.Nothing) = ⊥
-HeadSays (LineCases.Plain (PlainCases.Refused k)) = Unit {0}
-HeadSays (LineCases.Plain (PlainCases.Head h)) = Unit {0}
-HeadSays (LineCases.Start c n) = Unit {0}
-HeadSays (LineCases.Call c) = ⊥
+abbrev pub HeadSays : Result Line Refusal → Type 0
+HeadSays (Err k) = Unit {0}
+HeadSays (Ok LineCases.Nothing) = ⊥
+HeadSays (Ok (LineCases.Head h)) = Unit {0}
+HeadSays (Ok (LineCases.Start c n)) = Unit {0}
+HeadSays (Ok (LineCases.Call c)) = ⊥
 
-abbrev pub CallSays : Line → Type 0
-CallSays (LineCases.Plain PlainCases.Nothing) = ⊥
-CallSays (LineCases.Plain (PlainCases.Refused k)) = Unit {0}
-CallSays (LineCases.Plain (PlainCases.Head h)) = ⊥
-CallSays (LineCases.Start c n) = ⊥
-CallSays (LineCases.Call c) = Unit {0}
+abbrev pub CallSays : Result Line Refusal → Type 0
+CallSays (Err k) = Unit {0}
+CallSays (Ok LineCases.Nothing) = ⊥
+CallSays (Ok (LineCases.Head h)) = ⊥
+CallSays (Ok (LineCases.Start c n)) = ⊥
+CallSays (Ok (LineCases.Call c)) = Unit {0}
 
-abbrev pub PlainFits : Report → Plain → Type 0
-PlainFits r PlainCases.Nothing = Rests r.stage
-PlainFits r (PlainCases.Refused k) = Counts r.stage × (r.lines ≤ 1_000_000_000_000)
-PlainFits r (PlainCases.Head h) = (r.stage ≡ StageCases.Heads) × (r.lines ≤ 1_000_000_000_000)
-
-abbrev pub Fits : Report → Line → Type 0
-Fits r (LineCases.Plain p) = PlainFits r p
-Fits r (LineCases.Start c n) = (r.stage ≡ StageCases.Heads) × (r.lines ≤ 1_000_000_000_000)
-Fits r (LineCases.Call c) = (r.stage ≡ StageCases.Calls) × (r.lines ≤ 1_000_000_000_000)
+abbrev pub Fits : Report → Result Line Refusal → Type 0
+Fits r (Err k) = Counts r.stage × (r.lines ≤ 1_000_000_000_000)
+Fits r (Ok LineCases.Nothing) = Rests r.stage
+Fits r (Ok (LineCases.Head h)) = (r.stage ≡ StageCases.Heads) × (r.lines ≤ 1_000_000_000_000)
+Fits r (Ok (LineCases.Start c n)) = (r.stage ≡ StageCases.Heads) × (r.lines ≤ 1_000_000_000_000)
+Fits r (Ok (LineCases.Call c)) = (r.stage ≡ StageCases.Calls) × (r.lines ≤ 1_000_000_000_000)
 
 ---- the program's next report
 
@@ -112,31 +102,26 @@ refused_stage StageCases.Ended = StageCases.Ended
 refused_stage StageCases.Over = StageCases.Over
 
 abbrev pub quiet_next : Report → Next
-quiet_next r = record { report = r; line = 0; outcome = OutcomeCases.Taken; switches = no_switches }
+quiet_next r = record { report = r; line = 0; outcome = Ok OutcomeCases.Taken; switches = no_switches }
 
 abbrev pub refused_next : Report → Refusal → Next
 refused_next r k =
     record {
       report = record { lines = r.lines; stage = refused_stage r.stage; head = r.head; sched = r.sched };
       line = r.lines + 1;
-      outcome = OutcomeCases.Refused k;
+      outcome = Err k;
       switches = no_switches;
     }
 
 abbrev pub headed_next : Report → Heads.Head → Next
-headed_next r h = record { report = record { lines = r.lines + 1; stage = StageCases.Heads; head = h; sched = r.sched }; line = 0; outcome = OutcomeCases.Taken; switches = no_switches }
+headed_next r h = record { report = record { lines = r.lines + 1; stage = StageCases.Heads; head = h; sched = r.sched }; line = 0; outcome = Ok OutcomeCases.Taken; switches = no_switches }
 
-abbrev pub called_next : Report → Sched → Outcome → SwitchList → Next
+abbrev pub called_next : Report → Sched → Result Outcome Refusal → SwitchList → Next
 called_next r s o l = record { report = record { lines = r.lines + 1; stage = StageCases.Calls; head = r.head; sched = s }; line = r.lines + 1; outcome = o; switches = l }
 
-abbrev pub plain_next : Report → Plain → Next
-plain_next r PlainCases.Nothing = quiet_next r
-plain_next r (PlainCases.Refused k) = refused_next r k
-plain_next r (PlainCases.Head h) = headed_next r h
-
-abbrev pub answered_next : Report → Sched → CallAnswer → Next
-answered_next r s CallCases.Taken = called_next r s OutcomeCases.Taken no_switches
-answered_next r s (CallCases.Refused k) = refused_next r k
+abbrev pub answered_next : Report → Sched → Result Unit Refusal → Next
+answered_next r s (Ok tt) = called_next r s (Ok OutcomeCases.Taken) no_switches
+answered_next r s (Err k) = refused_next r k
 
 abbrev pub created_next : Report → Created → Next
 created_next r c = answered_next r c.sched c.answer

@@ -47,18 +47,11 @@ pub struct Fed {
     pub written: usize,
 }
 
-// What a line says for which the scheduler is neither made nor called. Nothing is read after the end.
-#[derive(Clone, Copy)]
-pub enum Plain {
-    Nothing,
-    Refused(Refusal),
-    Head(Head),
-}
-
-// What a line says in its stage.
+// What a line says in its stage, where it is not refused. Nothing is read after the end.
 #[derive(Clone, Copy)]
 pub enum Line {
-    Plain(Plain),
+    Nothing,
+    Head(Head),
     Start { config: SchedConfig, cores: u32 },
     Call(Call),
 }
@@ -68,6 +61,6 @@ pub enum Line {
 pub struct Next {
     pub report: Report,
     pub line: u64,
-    pub outcome: Outcome,
+    pub outcome: Result<Outcome, Refusal>,
     pub switches: SwitchList,
 }

@@ -12,11 +12,12 @@ ghost use Rattle.feed_plan.specs.Meant.{Few};
 ghost use Rattle.feed_plan.specs.Steps.{HeadSays, CallSays, fed_by};
 ghost use Rattle.feed_plan.specs.Feeding.{LineRead, reader_of, report_of};
 
-use crate::{Line, Plain, Reader, Report, Stage};
+use crate::{Line, Reader, Report, Stage};
+use commands::Command;
 use commands::calls::read_call;
-use commands::{CallRead, Command};
-use headings::HeadingRead;
-use headings::heading::read_head;
+use headings::Heading;
+use headings::reading::read_head;
+use model::Tick;
 use rcfg::Head;
 use sched::Call;
 use settings::Refusal;
@@ -44,70 +45,57 @@ fn call_of(command: Command) -> Call
 fn is_readable(lines: u64, piece: &[u8]) -> bool
     ensures { line_at (suc lines) piece.now ≡ line_if result piece.now }
 {
-    if lines >= 1_000_000_000_000 {
-        return false;
-    }
-    is_line(piece)
+    lines < 1_000_000_000_000 && is_line(piece)
 }
 
-fn read_heading(lines: u64, h: Head, piece: &[u8]) -> Line
+fn read_heading(lines: u64, h: Head, piece: &[u8]) -> Result<Line, Refusal>
     ensures says { (n : ℕ) → fed n (Report·heads (head_meant h)) (line_at (suc lines) piece.now) ≡ fed_by n (Report·heads (head_meant h)) result }
     ensures fits { HeadSays result }
 {
     if !is_readable(lines, piece) {
-        return Line::Plain(Plain::Refused(Refusal::BadLine));
+        return Err(Refusal::BadLine);
     }
-    let end = piece.len() - 1;
-    match read_head(h, &piece[..end]) {
-        HeadingRead::Refused(k) => Line::Plain(Plain::Refused(k)),
-        HeadingRead::More(next) => Line::Plain(Plain::Head(next)),
-        HeadingRead::Done { config, cores } => Line::Start { config, cores },
+    match read_head(h, &piece[..piece.len() - 1])? {
+        Heading::More(next) => Ok(Line::Head(next)),
+        Heading::Done { config, cores } => Ok(Line::Start { config, cores }),
     }
 }
 
-fn read_calling(lines: u64, piece: &[u8]) -> Line
+fn read_calling(lines: u64, piece: &[u8]) -> Result<Line, Refusal>
     ensures says { (n : ℕ) (s : State) → fed n (Report·calls s) (line_at (suc lines) piece.now) ≡ fed_by n (Report·calls s) result }
     ensures fits { CallSays result }
 {
     if !is_readable(lines, piece) {
-        return Line::Plain(Plain::Refused(Refusal::BadLine));
+        return Err(Refusal::BadLine);
     }
-    let end = piece.len() - 1;
-    match read_call(&piece[..end]) {
-        CallRead::Refused(k) => Line::Plain(Plain::Refused(k)),
-        CallRead::Call(command) => Line::Call(call_of(command)),
-    }
+    let command = read_call(&piece[..piece.len() - 1])?;
+    Ok(Line::Call(call_of(command)))
 }
 
 pub fn reader_of(r: Report) -> Reader
     ensures { result ≡ reader_of r }
 {
-    let stage = r.stage;
-    let head = r.head;
     Reader {
         lines: r.lines,
-        stage,
-        head,
+        stage: r.stage,
+        head: r.head,
     }
 }
 
 // What a line, its byte 10 included, says in the report's stage, whatever its scheduler.
-pub fn read_piece(k: Reader, piece: &[u8]) -> Line
+pub fn read_piece(k: Reader, piece: &[u8]) -> Result<Line, Refusal>
     requires { Few k.stage k.lines }
     ensures { (s : Sched) → LineRead (report_of k s) piece.now result }
 {
-    let stage = k.stage;
-    let head = k.head;
-    match stage {
-        Stage::Heads => read_heading(k.lines, head, piece),
+    match k.stage {
+        Stage::Heads => read_heading(k.lines, k.head, piece),
         Stage::Calls => read_calling(k.lines, piece),
-        Stage::Ended => Line::Plain(Plain::Nothing),
-        Stage::Over => Line::Plain(Plain::Nothing),
+        Stage::Ended | Stage::Over => Ok(Line::Nothing),
     }
 }
 
 // The same, of the whole report.
-pub fn read_line(r: Report, piece: &[u8]) -> Line
+pub fn read_line(r: Report, piece: &[u8]) -> Result<Line, Refusal>
     requires { Few r.stage r.lines }
     ensures { LineRead r piece.now result }
 {

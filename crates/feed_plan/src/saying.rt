@@ -19,17 +19,12 @@ pub fn put_text(next: Next, out: &mut [u8]) -> usize
     requires { Sayable next out.old }
     ensures { Put out.old 0 (next_text next) out.new result }
 {
-    let outcome = next.outcome;
-    let report = next.report;
-    let sched = report.sched;
-    let tick = sched.now;
-    let switches = next.switches;
-    match outcome {
-        Outcome::Refused(k) => put_refused(out, 0, next.line, k),
-        Outcome::Joined(joined) => put_joined(out, 0, next.line, joined),
-        Outcome::Switched => put_switches(out, 0, tick, switches),
-        Outcome::Taken => 0,
-        Outcome::Spawned(_) => 0,
+    match next.outcome {
+        Err(k) => put_refused(out, 0, next.line, k),
+        Ok(Outcome::Joined(joined)) => put_joined(out, 0, next.line, joined),
+        Ok(Outcome::Switched) => put_switches(out, 0, next.report.sched.now, next.switches),
+        Ok(Outcome::Taken) => 0,
+        Ok(Outcome::Spawned(_)) => 0,
     }
 }
 
@@ -38,22 +33,19 @@ pub fn put_next(next: Next, out: &mut [u8]) -> Fed
     requires { Sayable next out.old }
     ensures { SaidAs next out.old out.new result }
 {
-    let report = next.report;
-    let written = put_text(next, out);
-    Fed { report, written }
+    Fed {
+        report: next.report,
+        written: put_text(next, out),
+    }
 }
 
 // The thread records that the summary adds up: none where there is no scheduler.
 pub fn record_count(r: Report) -> usize
     ensures { result ≡ records_in r.stage r.sched }
 {
-    let stage = r.stage;
-    let sched = r.sched;
-    match stage {
-        Stage::Heads => 0,
-        Stage::Calls => sched.threads,
-        Stage::Ended => sched.threads,
-        Stage::Over => 0,
+    match r.stage {
+        Stage::Heads | Stage::Over => 0,
+        Stage::Calls | Stage::Ended => r.sched.threads,
     }
 }
 
@@ -62,12 +54,9 @@ pub fn put_end(r: Report, totals: Totals, out: &mut [u8]) -> usize
     requires { EndAsked r totals out.old }
     ensures { (ts : List ThreadInfo) (qs ps ls ws : List ℕ) → EndFits r totals ts qs ps ls ws → Put out.old 0 (finish (report_meant r ts qs ls ws)) out.new result }
 {
-    let stage = r.stage;
-    let sched = r.sched;
-    match stage {
+    match r.stage {
         Stage::Heads => put_refused(out, 0, r.lines + 1, Refusal::BadLine),
-        Stage::Calls => put_summary_of(out, 0, sched, totals),
-        Stage::Ended => put_summary_of(out, 0, sched, totals),
+        Stage::Calls | Stage::Ended => put_summary_of(out, 0, r.sched, totals),
         Stage::Over => 0,
     }
 }

@@ -3,11 +3,11 @@ ghost use Rattle.feed_plan.specs.Feeding.{Starts};
 
 use crate::steps::capacities;
 use crate::{Report, Stage};
-use model::{CoreTicks, Tick};
+use model::{CoreState, CoreTicks, Tick};
 use rcfg::Head;
 use rings::RingPos;
 use settings::SchedConfig;
-use state::{CoreWords, Sched, others_idle};
+use state::{Sched, others_idle, words_of};
 
 // A state that no call has seen: up to `cores=` it stands for nothing.
 fn no_sched() -> Sched {
@@ -17,24 +17,16 @@ fn no_sched() -> Sched {
         idle: 0,
     };
     let empty = RingPos { last: 0, len: 0 };
-    let config = SchedConfig::default();
-    let sizes = capacities();
-    let idle = CoreWords {
-        kind: 0,
-        tid: 0,
-        count: 0,
-    };
-    let states = others_idle(idle);
     Sched {
-        config,
-        capacities: sizes,
+        config: SchedConfig::default(),
+        capacities: capacities(),
         cores: 1,
         threads: 0,
         queued: 0,
         now: Tick(0),
         context_switches: 0,
         closed: false,
-        states,
+        states: others_idle(words_of(CoreState::Idle)),
         exits: [false; 8],
         blocks: [false; 8],
         yields: [false; 8],
@@ -49,12 +41,10 @@ fn no_sched() -> Sched {
 pub fn start() -> Report
     ensures { Starts result }
 {
-    let head = Head::new();
-    let sched = no_sched();
     Report {
         lines: 0,
         stage: Stage::Heads,
-        head,
-        sched,
+        head: Head::new(),
+        sched: no_sched(),
     }
 }

@@ -1,9 +1,8 @@
 // What a line makes of the report, once the scheduler has been made or has done the call.
 ghost use Rattle.std.specs.Prelude.{◌≡◌, ◌≤◌};
-ghost use Rattle.feed_plan.specs.Steps.{report_capacities, refused_stage, quiet_next, refused_next, headed_next, called_next, plain_next, created_next, applied_next, PlainFits};
+ghost use Rattle.feed_plan.specs.Steps.{report_capacities, refused_stage, quiet_next, refused_next, headed_next, called_next, created_next, applied_next};
 
-use crate::{Next, Plain, Report, Stage};
-use model::CallAnswer;
+use crate::{Next, Report, Stage};
 use new_plan::Created;
 use rcfg::Head;
 use sched::{Applied, Outcome};
@@ -26,98 +25,72 @@ fn refused_stage(stage: Stage) -> Stage
     ensures { result ≡ refused_stage stage }
 {
     match stage {
-        Stage::Heads => Stage::Over,
-        Stage::Calls => Stage::Ended,
-        Stage::Ended => Stage::Ended,
-        Stage::Over => Stage::Over,
+        Stage::Heads | Stage::Over => Stage::Over,
+        Stage::Calls | Stage::Ended => Stage::Ended,
     }
 }
 
-fn quiet(r: Report) -> Next
+// A line that is not read.
+pub fn quiet(r: Report) -> Next
     ensures { result ≡ quiet_next r }
 {
-    let switches = no_switches();
     Next {
         report: r,
         line: 0,
-        outcome: Outcome::Taken,
-        switches,
+        outcome: Ok(Outcome::Taken),
+        switches: no_switches(),
     }
 }
 
 // The refusal is printed, and no line is counted any more.
-fn refused(r: Report, k: Refusal) -> Next
+pub fn refused(r: Report, k: Refusal) -> Next
     requires { r.lines ≤ 1_000_000_000_000 }
     ensures { result ≡ refused_next r k }
 {
-    let before = r.stage;
-    let stage = refused_stage(before);
-    let head = r.head;
-    let sched = r.sched;
-    let switches = no_switches();
-    let report = Report {
-        lines: r.lines,
-        stage,
-        head,
-        sched,
-    };
     Next {
-        report,
+        report: Report {
+            stage: refused_stage(r.stage),
+            ..r
+        },
         line: r.lines + 1,
-        outcome: Outcome::Refused(k),
-        switches,
+        outcome: Err(k),
+        switches: no_switches(),
     }
 }
 
-fn headed(r: Report, head: Head) -> Next
+// A setting.
+pub fn headed(r: Report, head: Head) -> Next
     requires { r.lines ≤ 1_000_000_000_000 }
     ensures { result ≡ headed_next r head }
 {
-    let sched = r.sched;
-    let switches = no_switches();
-    let report = Report {
-        lines: r.lines + 1,
-        stage: Stage::Heads,
-        head,
-        sched,
-    };
     Next {
-        report,
+        report: Report {
+            lines: r.lines + 1,
+            stage: Stage::Heads,
+            head,
+            ..r
+        },
         line: 0,
-        outcome: Outcome::Taken,
-        switches,
+        outcome: Ok(Outcome::Taken),
+        switches: no_switches(),
     }
 }
 
-fn called(r: Report, sched: Sched, outcome: Outcome, switches: SwitchList) -> Next
+fn called(r: Report, sched: Sched, outcome: Result<Outcome, Refusal>, switches: SwitchList) -> Next
     requires { r.lines ≤ 1_000_000_000_000 }
     ensures { result ≡ called_next r sched outcome switches }
 {
-    let head = r.head;
     let line = r.lines + 1;
-    let report = Report {
-        lines: line,
-        stage: Stage::Calls,
-        head,
-        sched,
-    };
     Next {
-        report,
+        report: Report {
+            lines: line,
+            stage: Stage::Calls,
+            sched,
+            ..r
+        },
         line,
         outcome,
         switches,
-    }
-}
-
-// A line that leaves the scheduler as it is.
-pub fn of_plain(r: Report, plain: Plain) -> Next
-    requires { PlainFits r plain }
-    ensures { result ≡ plain_next r plain }
-{
-    match plain {
-        Plain::Nothing => quiet(r),
-        Plain::Refused(k) => refused(r, k),
-        Plain::Head(head) => headed(r, head),
     }
 }
 
@@ -126,11 +99,9 @@ pub fn of_created(r: Report, created: Created) -> Next
     requires { r.lines ≤ 1_000_000_000_000 }
     ensures { result ≡ created_next r created }
 {
-    let answer = created.answer;
-    let sched = created.sched;
-    match answer {
-        CallAnswer::Refused(k) => refused(r, k),
-        CallAnswer::Taken => called(r, sched, Outcome::Taken, no_switches()),
+    match created.answer {
+        Err(k) => refused(r, k),
+        Ok(()) => called(r, created.sched, Ok(Outcome::Taken), no_switches()),
     }
 }
 
@@ -139,15 +110,5 @@ pub fn of_applied(r: Report, applied: Applied) -> Next
     requires { r.lines ≤ 1_000_000_000_000 }
     ensures { result ≡ applied_next r applied }
 {
-    let sched = applied.sched;
-    let outcome = applied.outcome;
-    let switches = applied.switches;
-    called(r, sched, outcome, switches)
-}
-
-// The state that a call is applied to.
-pub fn sched_of(r: Report) -> Sched
-    ensures { result ≡ r.sched }
-{
-    r.sched
+    called(r, applied.sched, applied.outcome, applied.switches)
 }

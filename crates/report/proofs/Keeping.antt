@@ -1,4 +1,5 @@
 -- What the program keeps from line to line: report and text are the definition's for the lines taken.
+use Rattle.std.specs.Prelude.{Result}
 use Prim.Native.Nat.{ℕ, suc, ◌+◌, ◌-◌, ◌≤◌, ◌<◌}
 use mathlib.Core.Path.{◌≡◌, refl, sym, ap, ap₂, ◌∙◌}
 use mathlib.Core.Bool.{Bool, true, false, cond, ◌&&◌}
@@ -17,6 +18,7 @@ use Rattle.script.proofs.Streams.{feeds-report, feeds-out}
 use Rattle.feed_plan.specs.declared.Stage.{Stage}
 use Rattle.feed_plan.specs.declared.Stage.TheVariants as StageCases
 use Rattle.feed_plan.specs.declared.Report.{Report}
+use Rattle.settings.specs.declared.Refusal.{Refusal}
 use Rattle.feed_plan.specs.declared.Line.{Line}
 use Rattle.feed_plan.specs.declared.Next.{Next}
 use Rattle.feed_plan.specs.Meant.{counting, report_meant, ReportValid}
@@ -78,7 +80,7 @@ out_one : (d : Definition.Report) (l : List ℕ) → (feeds d (l ∷ [])).out �
 unfolding feeds
 out_one d l = append-nil (feed d l).out
 
-module _ (r : Report) (u : Upcoming) (m : Lists) (bs : List ℕ) (s : SoFar r u m.ts bs m.qs m.ls m.ws) (less : u.place.turn < last_turn) (ahead : List ℕ) (some : 0 < length ahead) (c : Line)
+module _ (r : Report) (u : Upcoming) (m : Lists) (bs : List ℕ) (s : SoFar r u m.ts bs m.qs m.ls m.ws) (less : u.place.turn < last_turn) (ahead : List ℕ) (some : 0 < length ahead) (c : Result Line Refusal)
     (says : feed (report_meant r m.ts m.qs m.ls m.ws) (first_of (cut ahead)) ≡ fed_of (report_meant r m.ts m.qs m.ls m.ws) c)
     (x : Next) (z : Lists) (done : LineDone r c m.ts z.ts m.qs z.qs m.ps z.ps m.ls z.ls m.ws z.ws x) (valid : ReportValid x.report z.ts z.qs z.ps z.ls z.ws) where
   abbrev piece : List ℕ
@@ -210,7 +212,7 @@ pub none_yet_lem : (r : Report) (u : Upcoming) (ts : List ThreadInfo) (b bs qs l
 unfolding feeds cut
 none_yet_lem r u ts b bs qs ls ws s n = record { script = []; report = s.report ts qs ls ws; sent = []; text = ap (λ (i : ℕ). take i (drop 65_536 bs)) n.pending; much = λ h. absurd (omega arith); ended = λ h l. refl }
 
-module _ (r : Report) (u : Upcoming) (i : ℕ) (m : Lists) (bs : List ℕ) (runs : Runnable r u i m.ts bs m.qs m.ps m.ls m.ws) (n : ℕ) (bs' : List ℕ) where
+module _ (r : Report) (u : Upcoming) (m : Lists) (bs : List ℕ) (runs : Runnable r u m.ts bs m.qs m.ps m.ls m.ws) (n : ℕ) (bs' : List ℕ) where
   abbrev t : List ℕ
   t = finish (report_meant r m.ts m.qs m.ls m.ws)
 

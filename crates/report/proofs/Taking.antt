@@ -1,4 +1,5 @@
 -- A turn of the report program, without its memory: the next line may be taken, what it prints fits, and what is known before the next turn.
+use Rattle.std.specs.Prelude.{Result}
 use mathlib.Core.Path.{◌≡◌, refl, sym, subst}
 use Prim.Native.Nat.{ℕ, ◌+◌, ◌<◌, ◌≤◌}
 use native.Mathlib.Omega.{arith}
@@ -12,6 +13,7 @@ use Rattle.state.specs.State.{meant_at}
 use Rattle.script.specs.Report as Definition
 use Rattle.script.proofs.Room.{finish-well}
 use Rattle.feed_plan.specs.declared.Report.{Report}
+use Rattle.settings.specs.declared.Refusal.{Refusal}
 use Rattle.feed_plan.specs.declared.Line.{Line}
 use Rattle.feed_plan.specs.declared.Next.{Next}
 use Rattle.feed_plan.specs.declared.Fed.{Fed}
@@ -34,33 +36,33 @@ limit = last_turn
 abbrev ValidIn : Report → Lists → Type 0
 ValidIn r m = ReportValid r m.ts m.qs m.ps m.ls m.ws
 
-abbrev RunsIn : Report → Upcoming → ℕ → Lists → List ℕ → Type 0
-RunsIn r u i m bs = Runnable r u i m.ts bs m.qs m.ps m.ls m.ws
+abbrev RunsIn : Report → Upcoming → Lists → List ℕ → Type 0
+RunsIn r u m bs = Runnable r u m.ts bs m.qs m.ps m.ls m.ws
 
-abbrev DoneIn : Report → Line → Lists → Lists → Next → Type 0
+abbrev DoneIn : Report → Result Line Refusal → Lists → Lists → Next → Type 0
 DoneIn r c m z x = LineDone r c m.ts z.ts m.qs z.qs m.ps z.ps m.ls z.ls m.ws z.ws x
 
-module _ (r : Report) (u : Upcoming) (i : ℕ) (c : Line) (m : Lists) (bs : List ℕ) (less : i < limit) (runs : RunsIn r u i m bs) (e : c ≡ u.line) where
+module _ (r : Report) (u : Upcoming) (m : Lists) (bs : List ℕ) (less : u.place.turn < limit) (runs : RunsIn r u m bs) where
   standing : Standing r runs.awaits.ahead bs u
-  standing = runs.awaits.line (subst (λ (t : ℕ). t < limit) runs.turns less)
+  standing = runs.awaits.line less
 
   abbrev piece : List ℕ
   piece = first_of (cut runs.awaits.ahead)
 
-  reads : LineRead r piece c
-  reads = subst (LineRead r piece) (sym e) (subst (λ (l : List ℕ). LineRead r (first_of (cut l)) u.line) (append-nil runs.awaits.ahead) (standing.reads [] (λ h. refl)))
+  reads : LineRead r piece u.line
+  reads = subst (λ (l : List ℕ). LineRead r (first_of (cut l)) u.line) (append-nil runs.awaits.ahead) (standing.reads [] (λ h. refl))
 
   -- the line may be taken
-  pub asked : LineAsked r c m.ts m.qs m.ps m.ls m.ws
-  asked = line-asked r piece m.ts m.qs m.ps m.ls m.ws runs.valid c reads.fits
+  pub asked : LineAsked r u.line m.ts m.qs m.ps m.ls m.ws
+  asked = line-asked r piece m.ts m.qs m.ps m.ls m.ws runs.valid u.line reads.fits
 
-  module _ (x : Next) (z : Lists) (claim : DoneIn r c m z x) (long : Long m z) where
-    says-it : Definition.feed (report_meant r m.ts m.qs m.ls m.ws) piece ≡ fed_of (report_meant r m.ts m.qs m.ls m.ws) c
+  module _ (x : Next) (z : Lists) (claim : DoneIn r u.line m z x) (long : Long m z) where
+    says-it : Definition.feed (report_meant r m.ts m.qs m.ls m.ws) piece ≡ fed_of (report_meant r m.ts m.qs m.ls m.ws) u.line
     unfolding report_meant
     says-it = reads.says (meant_at r.sched m.ts m.qs m.ls m.ws)
 
     fits_in : Sayable x (replicate 288 0)
-    fits_in = sayable r piece m.ts m.qs m.ps m.ls m.ws runs.valid c z.ts z.qs z.ps z.ls z.ws x says-it claim (replicate 288 0) (subst (λ (k : ℕ). 288 ≤ k) (sym (length-replicate {A = ℕ} 288 0)) (omega arith))
+    fits_in = sayable r piece m.ts m.qs m.ps m.ls m.ws runs.valid u.line z.ts z.qs z.ps z.ls z.ws x says-it claim (replicate 288 0) (subst (λ (k : ℕ). 288 ≤ k) (sym (length-replicate {A = ℕ} 288 0)) (omega arith))
 
     memory : Meant.Roomy z.ts z.qs z.ps z.ls z.ws
     memory = roomy-kept m.ts z.ts m.qs z.qs m.ps z.ps m.ls z.ls m.ws z.ws (record { threads = long.threads; queue = long.queue; prios = long.prios; log = long.log; lanes = long.lanes }) runs.valid.memory
@@ -71,30 +73,26 @@ module _ (r : Report) (u : Upcoming) (i : ℕ) (c : Line) (m : Lists) (bs : List
     -- the report after it
     valid-next : ValidIn x.report z
     valid-next =
-        (feed-done r piece m.ts m.qs m.ps m.ls m.ws runs.valid c z.ts z.qs z.ps z.ls z.ws x says-it claim [] (paste [] 0 (next_text x) (length (next_text x))) said memory
+        (feed-done r piece m.ts m.qs m.ps m.ls m.ws runs.valid u.line z.ts z.qs z.ps z.ls z.ws x says-it claim [] (paste [] 0 (next_text x) (length (next_text x))) said memory
         (record { report = refl; text = record { bytes = refl; end = refl } })).valid
 
     -- what it prints fits
     pub printable : Roomy u.place × (u.place.turn < limit) × Printable x × (131_072 ≤ length bs)
     printable = (
       runs.awaits.roomy,
-      subst (λ (t : ℕ). t < limit) runs.turns less,
+      less,
       record { number = fits_in.number; listed = fits_in.listed; short = subst (λ (k : ℕ). length (next_text x) ≤ k) (length-replicate {A = ℕ} 288 0) fits_in.long; few = lines-few x.report [] z.ts z.qs z.ps z.ls z.ws valid-next },
       runs.room,
     )
 
     -- and what is known before the next turn
-    pub goes_on : (v : Upcoming) (bs' : List ℕ) (r' : Report) (t : ℕ) → Passed u x bs bs' v → length bs' ≡ length bs → r' ≡ marked_report x.report v.marked → t ≡ v.place.turn → RunsIn r' v t z bs'
-    goes_on v bs' r' t p long' e' turn = record {
-      valid = subst (λ (y : Report). ValidIn y z) (sym e') (marked-valid r u m bs runs.so_far turn-less runs.awaits.ahead standing.some c says-it x z claim valid-next v bs' p);
+    pub goes_on : (v : Upcoming) (bs' : List ℕ) (r' : Report) → Passed u x bs bs' v → length bs' ≡ length bs → r' ≡ marked_report x.report v.marked → RunsIn r' v z bs'
+    goes_on v bs' r' p long' e' = record {
+      valid = subst (λ (y : Report). ValidIn y z) (sym e') (marked-valid r u m bs runs.so_far less runs.awaits.ahead standing.some u.line says-it x z claim valid-next v bs' p);
       awaits = subst (λ (y : Report). Awaits y bs' v) (sym e') p.awaits;
-      turns = turn;
       room = subst (λ (k : ℕ). 131_072 ≤ k) (sym long') runs.room;
-      so_far = subst (λ (y : Report). SoFar y v z.ts bs' z.qs z.ls z.ws) (sym e') (kept r u m bs runs.so_far turn-less runs.awaits.ahead standing.some c says-it x z claim valid-next v bs' p);
+      so_far = subst (λ (y : Report). SoFar y v z.ts bs' z.qs z.ls z.ws) (sym e') (kept r u m bs runs.so_far less runs.awaits.ahead standing.some u.line says-it x z claim valid-next v bs' p);
     }
-      where
-        turn-less : u.place.turn < limit
-        turn-less = subst (λ (t : ℕ). t < limit) runs.turns less
 
 -- what stands at the end is short
 pub count_fits : (r : Report) (m : Lists) (bs : List ℕ) (n : ℕ) (bs' : List ℕ) → ValidIn r m → Put bs 0 (Definition.finish (report_meant r m.ts m.qs m.ls m.ws)) bs' n → n ≤ 400
@@ -104,8 +102,15 @@ count_fits r m bs n bs' v p =
     omega (arith, w, e)
 
 -- before the first line
-pub sized : (ts : List ThreadInfo) (qs ps ls ws : List ℕ) → 256 ≡ length ts → 256 ≡ length qs → 256 ≡ length ps → 1_024 ≡ length ls → 4_176 ≡ length ws → Meant.Roomy ts qs ps ls ws
-sized ts qs ps ls ws t q p l w = record { threads = omega (arith, t); queue = omega (arith, q); prios = omega (arith, p); log = omega (arith, l); lanes = omega (arith, w) }
+pub sized : (t : ThreadInfo) → Meant.Roomy (replicate 256 t) (replicate 256 0) (replicate 256 0) (replicate 1_024 0) (replicate 4_176 0)
+sized t =
+    record {
+      threads = omega (arith, length-replicate 256 t);
+      queue = omega (arith, length-replicate {A = ℕ} 256 0);
+      prios = omega (arith, length-replicate {A = ℕ} 256 0);
+      log = omega (arith, length-replicate {A = ℕ} 1_024 0);
+      lanes = omega (arith, length-replicate {A = ℕ} 4_176 0);
+    }
 
 pub first-few : (r : Report) (ts : List ThreadInfo) (qs ps ls ws : List ℕ) → Starts r → Meant.Roomy ts qs ps ls ws → Meant.Few r.stage r.lines
 first-few r ts qs ps ls ws s m = lines-few r [] ts qs ps ls ws (s.valid ts qs ps ls ws m)

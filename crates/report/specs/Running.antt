@@ -19,10 +19,9 @@ pub record SoFar (r : Report) (u : Upcoming) (ts : List ThreadInfo) (bs qs ls ws
   pub much : 0 < length sent → 65_248 < length sent
   pub ended : u.place.turn < last_turn → (l : List ℕ) → cut (script ++ l) ≡ cut script ++ cut l
 
-pub record Runnable (r : Report) (u : Upcoming) (turn : ℕ) (ts : List ThreadInfo) (bs qs ps ls ws : List ℕ) : Type 0 where
+pub record Runnable (r : Report) (u : Upcoming) (ts : List ThreadInfo) (bs qs ps ls ws : List ℕ) : Type 0 where
   pub valid : ReportValid r ts qs ps ls ws
   pub awaits : Awaits r bs u
-  pub turns : turn ≡ u.place.turn
   pub room : 131_072 ≤ length bs
   pub so_far : SoFar r u ts bs qs ls ws
 

@@ -1,5 +1,6 @@
 -- The two most frequent lines, `tick=` and `retired=` with a core's digit, as the definition reads them.
 -- Assumes nothing.
+use Rattle.std.specs.Prelude.{Ok}
 use Prim.Native.Nat.{ℕ, zero, suc, ◌+◌, ◌-◌, ◌≤◌, ◌<◌}
 use mathlib.Core.Path.{◌≡◌, refl, sym, ap, subst, ◌∙◌}
 use mathlib.Core.Bool.{Bool, cond}
@@ -50,14 +51,14 @@ tick-first : (l : List ℕ) → tick_bytes ≡ line_ahead (tick_bytes ++ l)
 unfolding line_ahead first_of cut onto
 tick-first l = refl
 
-tick-in-calls : (n : ℕ) (h : Head) (s : Sched) → n < 1_000_000_000_000 → LineRead (record { lines = n; stage = StageCases.Calls; head = h; sched = s }) tick_bytes (LineCases.Call CallCases.EndTick)
+tick-in-calls : (n : ℕ) (h : Head) (s : Sched) → n < 1_000_000_000_000 → LineRead (record { lines = n; stage = StageCases.Calls; head = h; sched = s }) tick_bytes (Ok (LineCases.Call CallCases.EndTick))
 tick-in-calls n h s k = record { says = λ t. called-by n t tick_bytes _ tick (omega arith) tick-line tick-call; fits = (refl, omega arith) }
 
 module _ (k : Reader) (p : Place) (b : List ℕ) (t : TickAhead k p b) where
-  pub tick-reads : (s : Sched) → LineRead (report_of k s) (between p.at (p.at + 6) b) (LineCases.Call CallCases.EndTick)
+  pub tick-reads : (s : Sched) → LineRead (report_of k s) (between p.at (p.at + 6) b) (Ok (LineCases.Call CallCases.EndTick))
   tick-reads s =
-      subst (λ (l : List ℕ). LineRead (report_of k s) l (LineCases.Call CallCases.EndTick)) (sym t.line)
-      (subst (λ (g : Stage). LineRead (record { lines = k.lines; stage = g; head = k.head; sched = s }) tick_bytes (LineCases.Call CallCases.EndTick)) (sym t.calls) (tick-in-calls k.lines k.head s t.few))
+      subst (λ (l : List ℕ). LineRead (report_of k s) l (Ok (LineCases.Call CallCases.EndTick))) (sym t.line)
+      (subst (λ (g : Stage). LineRead (record { lines = k.lines; stage = g; head = k.head; sched = s }) tick_bytes (Ok (LineCases.Call CallCases.EndTick))) (sym t.calls) (tick-in-calls k.lines k.head s t.few))
 
   six : p.at + 6 - p.at ≡ 6
   six = omega arith

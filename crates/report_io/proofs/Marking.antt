@@ -30,37 +30,31 @@ each_more : (n : ℕ) (ls : List ℕ) (c : ℕ) → c < n → c < 8 → Each n l
 each_more n [] c h k e = (h, (k, tt))
 each_more n (d ∷ ls) c h k e = (e.0, (e.1.0, each_more n ls c h k e.1.1))
 
--- the loop's invariant: the lines so far
-pub record Taken (text : List ℕ) (cores : ℕ) (m marks : List Bool) (at n : ℕ) : Type 0 where
-  pub lines : List ℕ
-  pub each : Each cores lines
-  pub place : at ≡ 10 * length lines
-  pub within : at ≤ length text
-  pub front : take at text ≡ retired_lines lines
-  pub count : n ≡ length lines
-  pub marked : marks ≡ marks_after lines m
+-- the lines so far, as the loop has them
+abbrev pub Taken : (text : List ℕ) (cores : ℕ) (m marks : List Bool) (count : ℕ) → Type 0
+Taken text cores m marks count = MarksAhead text cores m (record { progressed = marks; count = count })
 
-pub none-taken : (text : List ℕ) (cores : ℕ) (m : List Bool) → Taken text cores m m 0 0
+pub none-taken : (text : List ℕ) (cores : ℕ) (m : List Bool) → Taken text cores m m 0
 unfolding retired_lines marks_after
-none-taken text cores m = record { lines = []; each = tt; place = refl; within = omega arith; front = refl; count = refl; marked = refl }
+none-taken text cores m = record { lines = []; each = tt; within = omega arith; front = refl; count = refl; progressed = refl }
 
-module _ (text : List ℕ) (cores : ℕ) (m marks : List Bool) (at count : ℕ) (t : Taken text cores m marks at count) where
-  module _ (c : ℕ) (is : MarkedCore (drop at text) c) (h : c < cores) (k : c < 8) where
-    pub room_for : at + 10 ≤ length text
-    room_for = let e : length (drop at text) ≡ length text - at = length-drop at text in omega (arith, (is k).0, t.within)
-
-    pub taken_more : Taken text cores m (set marks c true) (at + 10) (count + 1)
-    taken_more =
-        let n : length (t.lines ++ (c ∷ [])) ≡ length t.lines + 1 = length-append t.lines (c ∷ []) in
-        record {
-          lines = t.lines ++ (c ∷ []);
-          each = each_more cores t.lines c h k t.each;
-          place = omega (arith, n, t.place);
-          within = room_for;
-          front = take-add at 10 text ∙ ap (λ (l : List ℕ). l ++ take 10 (drop at text)) t.front ∙ ap (λ (l : List ℕ). retired_lines t.lines ++ l) (is k).1 ∙ sym (lines_more t.lines c);
-          count = omega (arith, n, t.count);
-          marked = ap (λ (l : List Bool). set l c true) t.marked ∙ sym (marks-more t.lines c m);
-        }
+pub taken_more : (text : List ℕ) (cores : ℕ) (m marks : List Bool) (count : ℕ) → Taken text cores m marks count
+    → (c : ℕ) → MarkedCore (drop (10 * count) text) c → c < cores → c < 8 → Taken text cores m (set marks c true) (count + 1)
+taken_more text cores m marks count t c is h k =
+    let at : ℕ = 10 * length t.lines in
+    let n : length (t.lines ++ (c ∷ [])) ≡ length t.lines + 1 = length-append t.lines (c ∷ []) in
+    let e : 10 * length (t.lines ++ (c ∷ [])) ≡ at + 10 = omega (arith, n) in
+    let line : MarkedCore (drop at text) c = subst (λ (j : ℕ). MarkedCore (drop (10 * j) text) c) t.count is in
+    let long : length (drop at text) ≡ length text - at = length-drop at text in
+    record {
+      lines = t.lines ++ (c ∷ []);
+      each = each_more cores t.lines c h k t.each;
+      within = omega (arith, e, long, (line k).0, t.within);
+      front =
+          ap (λ (j : ℕ). take j text) e ∙ take-add at 10 text ∙ ap (λ (l : List ℕ). l ++ take 10 (drop at text)) t.front ∙ ap (λ (l : List ℕ). retired_lines t.lines ++ l) (line k).1 ∙ sym (lines_more t.lines c);
+      count = omega (arith, n, t.count);
+      progressed = ap (λ (l : List Bool). set l c true) t.progressed ∙ sym (marks-more t.lines c m);
+    }
 
 ---- in the script's block
 

@@ -1,21 +1,22 @@
 -- What stands in the script's block: brought to the front, refilled, and its first line.
+use Rattle.std.specs.Prelude.{Result}
 use Prim.Native.Nat.{ℕ, zero, suc, ◌+◌, ◌-◌, ◌≤◌, ◌<◌, min}
 use mathlib.Core.Path.{◌≡◌, refl, sym, ap, subst, ◌∙◌}
 use mathlib.Core.Logic.{◌⊎◌, inl, inr, ⊎_elim}
 use mathlib.Core.Bool.{Bool, true, false, cond, not, ◌&&◌}
-use mathlib.Core.List.{List, [], ◌∷◌, ◌++◌, append_assoc, append-nil}
+use mathlib.Core.List.{List, [], ◌∷◌, ◌++◌, append-nil}
 use native.Mathlib.Omega.{arith}
-use native.Mathlib.Numerals.{add-one}
 use borrow.Author.Tests.{leb-true, leb-false, le-leb, lt-leb, ltb-false}
 use borrow.Rule.Slice.PartMut.{mid_of, put_mid, mid_len, take_put, drop_put}
 use lib.Dec.{leb, ltb, eqb}
-use lib.ListN.{length, take, drop, get_or, set, length-append, length-take, length-drop, take-append-drop}
-use lib.Seq.{take_all, take-nil, take-take, take-suc, take_at, take-append-le, drop-cons, drop-drop, drop-append-add, length-take-le, get_or-drop, get_or-append-add, set_at}
+use lib.ListN.{length, take, drop, length-append, length-take, length-drop, take-append-drop}
+use lib.Seq.{paste, take_all, take-nil, take-take, take_at, take-append-le, drop-drop, drop-append-add, length-take-le}
 use Rattle.model.proofs.PhaseLaws.{not-both}
 use Rattle.text.specs.Lines.{onto, cut, line_of}
 use Rattle.script.specs.Report as Definition
 use Rattle.script.proofs.Streams.{too_long}
 use Rattle.feed_plan.specs.declared.Report.{Report}
+use Rattle.settings.specs.declared.Refusal.{Refusal}
 use Rattle.feed_plan.specs.declared.Line.{Line}
 use Rattle.feed_plan.specs.Feeding.{LineRead}
 use Rattle.report_io.specs.declared.Marked.{Marked}
@@ -49,33 +50,13 @@ between-length at end b h = length-take-le (end - at) (drop at b) (rw length-dro
 
 ---- the rest brought to the front
 
-pub front-none : (at : ℕ) (b : List ℕ) → b ≡ brought_front at 0 b
+-- as `copy_within` brings it
+pub copied-front : (at n : ℕ) (b b' : List ℕ) → b' ≡ paste b 0 (drop at b) (at + n - at) → b' ≡ brought_front at n b
 unfolding brought_front
-front-none at b = refl
-
-module _ (at i : ℕ) (b : List ℕ) (h : at + i < length b) where
-  abbrev head : List ℕ
-  head = take i (drop at b)
-
-  head-length : length head ≡ i
-  head-length = length-take-le i (drop at b) (rw length-drop (omega arith))
-
-  byte-is : get_or (brought_front at i b) (at + i) 0 ≡ get_or b (at + i) 0
-  unfolding brought_front
-  byte-is =
-      let e : at + i ≡ length head + at = omega (arith, head-length) in
-      let f : i + at ≡ at + i = omega arith in
-      ap (λ (k : ℕ). get_or (head ++ drop i b) k 0) e ∙ get_or-append-add head (drop i b) at 0 ∙ get_or-drop i b at 0 ∙ ap (λ (k : ℕ). get_or b k 0) f
-
-  stored : set (brought_front at i b) i (get_or b (at + i) 0) ≡ brought_front at (suc i) b
-  unfolding brought_front
-  stored =
-      ap (λ (l : List ℕ). set (head ++ l) i (get_or b (at + i) 0)) (drop-cons b i 0 (omega arith)) ∙
-      set_at head (get_or b i 0) (drop (suc i) b) (get_or b (at + i) 0) i head-length ∙
-      sym (ap (λ (l : List ℕ). l ++ drop (suc i) b) (take-suc (drop at b) i 0 (rw length-drop (omega arith)) ∙ ap (λ (v : ℕ). head ++ (v ∷ [])) (get_or-drop at b i 0)) ∙ append_assoc head (get_or b (at + i) 0 ∷ []) (drop (suc i) b))
-
-  pub front-next : set (brought_front at i b) i (get_or (brought_front at i b) (at + i) 0) ≡ brought_front at (i + 1) b
-  front-next = ap (λ (v : ℕ). set (brought_front at i b) i v) byte-is ∙ stored ∙ ap (λ (k : ℕ). brought_front at k b) (sym (add-one i))
+copied-front at n b b' e =
+    let k : at + n - at ≡ n = omega arith in
+    let z : 0 + n ≡ n = omega arith in
+    e ∙ rw (k, z)
 
 pub front_length : (at n : ℕ) (b : List ℕ) → at + n ≤ length b → length (brought_front at n b) ≡ length b
 unfolding brought_front
@@ -274,7 +255,7 @@ module _ (s later : List ℕ) where
   unfolding line_ahead
   same_line e = ap line_of (sym e) ∙ line-like (first_of (cut (s ++ later)))
 
-  pub reads-like : (read : Bool) (r : Report) (l : Line) → (read ≡ false → 257 ≤ length s) → (read ≡ true → later ≡ []) → LineRead r (line_ahead s) l → LineRead r (first_of (cut (s ++ later))) l
+  pub reads-like : (read : Bool) (r : Report) (l : Result Line Refusal) → (read ≡ false → 257 ≤ length s) → (read ≡ true → later ≡ []) → LineRead r (line_ahead s) l → LineRead r (first_of (cut (s ++ later))) l
   reads-like read r l more none k = record { says = λ t. sym (feed-like _ (line_ahead s) (first_of (cut (s ++ later))) (same_line (ahead read more none))) ∙ k.says t; fits = k.fits }
     where
       ahead : (t : Bool) → (t ≡ false → 257 ≤ length s) → (t ≡ true → later ≡ []) → line_ahead (s ++ later) ≡ line_ahead s
@@ -336,7 +317,7 @@ module _ (r : Report) (p q : Place) (m : Marked) (b b' : List ℕ) (f : Filled p
         turn = turn ∙ turn-none ahead p.turn (sym f.stands ∙ none_between q.at q.end b' h);
       }
 
-  module _ (long : 131_072 ≤ length b') (some : q.at < q.end) (stop : ℕ) (end : LineEnd q.at q.end b' stop) (l : Line) (reads : LineRead r (between q.at stop b') l) where
+  module _ (long : 131_072 ≤ length b') (some : q.at < q.end) (stop : ℕ) (end : LineEnd q.at q.end b' stop) (l : Result Line Refusal) (reads : LineRead r (between q.at stop b') l) where
     abbrev next_place : Place
     next_place = record { at = stop; end = q.end; all_read = q.all_read; pending = q.pending; all_written = q.all_written; turn = q.turn }
 

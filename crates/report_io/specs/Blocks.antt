@@ -1,12 +1,11 @@
 -- The report program's two blocks: what stands in them, the script's next line, and what is printed.
-use Rattle.std.specs.Prelude.{ℕ, ◌+◌, ◌-◌, ◌≤◌, ◌<◌, ◌≡◌, ◌⊎◌, Bool, true, false, cond, not, ◌&&◌, List, [], ◌∷◌, ◌++◌, leb, ltb, length, take, drop}
+use Rattle.std.specs.Prelude.{ℕ, ◌+◌, ◌-◌, ◌≤◌, ◌<◌, ◌≡◌, ◌⊎◌, Bool, true, false, cond, not, ◌&&◌, List, [], ◌∷◌, ◌++◌, leb, ltb, length, take, drop, Ok}
 use Rattle.text.specs.Lines.{cut}
 use Rattle.feed_plan.specs.declared.Stage.{Stage}
 use Rattle.feed_plan.specs.declared.Stage.TheVariants as StageCases
 use Rattle.feed_plan.specs.declared.Report.{Report}
 use Rattle.feed_plan.specs.declared.Reader.{Reader}
 use Rattle.feed_plan.specs.declared.Line.TheVariants as LineCases
-use Rattle.feed_plan.specs.declared.Plain.TheVariants as PlainCases
 use Rattle.feed_plan.specs.declared.Next.{Next}
 use Rattle.feed_plan.specs.Meant.{Few}
 use Rattle.feed_plan.specs.Steps.{next_text}
@@ -44,7 +43,7 @@ ended p = record { at = p.at; end = p.end; all_read = p.all_read; pending = p.pe
 
 -- no line follows
 abbrev pub no_line : Place → Marked → Upcoming
-no_line p m = record { line = LineCases.Plain PlainCases.Nothing; place = ended p; marked = m }
+no_line p m = record { line = Ok LineCases.Nothing; place = ended p; marked = m }
 
 ---- the script's block
 
@@ -123,7 +122,7 @@ pub record TickAhead (k : Reader) (p : Place) (b : List ℕ) : Type 0 where
   pub line : between p.at (p.at + 6) b ≡ tick_bytes
 
 abbrev pub tick_line : Place → Marked → Upcoming
-tick_line p m = record { line = LineCases.Call CallCases.EndTick; place = record { at = p.at + 6; end = p.end; all_read = p.all_read; pending = p.pending; all_written = p.all_written; turn = p.turn }; marked = m }
+tick_line p m = record { line = Ok (LineCases.Call CallCases.EndTick); place = record { at = p.at + 6; end = p.end; all_read = p.all_read; pending = p.pending; all_written = p.all_written; turn = p.turn }; marked = m }
 
 -- no line follows where nothing stands ahead
 unfoldable pub turn_ahead : (ahead : List ℕ) → (turn : ℕ) → ℕ

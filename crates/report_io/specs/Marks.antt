@@ -1,6 +1,5 @@
 -- Lines `retired=` that are taken together.
 use Rattle.std.specs.Prelude.{ℕ, ◌+◌, ◌-◌, ◌*◌, ◌≤◌, ◌<◌, ◌≡◌, Bool, true, false, List, [], ◌∷◌, ◌++◌, length, take, drop, set}
-use Rattle.state.specs.declared.Sched.{Sched}
 use Rattle.sched_marks.specs.Change.{with_progressed}
 use Rattle.feed_plan.specs.declared.Stage.TheVariants as StageCases
 use Rattle.feed_plan.specs.declared.Report.{Report}

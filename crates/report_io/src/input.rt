@@ -1,5 +1,5 @@
 // The script, read in blocks.
-ghost use Rattle.std.specs.Prelude.{◌≡◌, true, ◌+◌, ◌<◌, ◌≤◌, min, length};
+ghost use Rattle.std.specs.Prelude.{◌≡◌, true, ◌+◌, ◌<◌, ◌≤◌, length};
 ghost use Rattle.state.specs.declared.Sched.{Sched};
 ghost use Rattle.feed_plan.specs.Meant.{Few};
 ghost use Rattle.feed_plan.specs.Feeding.{report_of};
@@ -7,7 +7,7 @@ ghost use Rattle.report_io.specs.Blocks.{Within, Roomy, no_line, brought_front, 
 
 use crate::{BLOCK, MAX_TURNS, Marked, Place, Upcoming};
 use feed_plan::reading::read_piece;
-use feed_plan::{Line, Plain, Reader, Stage};
+use feed_plan::{Line, Reader, Stage};
 use sched::Call;
 use text::STDIN_FILENO;
 use text::lines::{is_same, piece_end};
@@ -17,11 +17,7 @@ fn move_rest(blocks: &mut [u8], at: usize, n: usize)
     requires { at + n ≤ length blocks.old }
     ensures { blocks.new ≡ brought_front at n blocks.old }
 {
-    let mut i = 0;
-    while i < n {
-        blocks[i] = blocks[at + i];
-        i += 1;
-    }
+    blocks.copy_within(at..at + n, 0);
 }
 
 // The rest of the block goes to the front, and more of the script behind it.
@@ -30,9 +26,8 @@ fn refill(blocks: &mut [u8], at: usize, end: usize) -> usize
     ensures { Refilled at end blocks.old blocks.new result }
 {
     let rest = end - at;
-    let limit = BLOCK;
     move_rest(blocks, at, rest);
-    rest + io::read_full(STDIN_FILENO, &mut blocks[rest..limit])
+    rest + io::read_full(STDIN_FILENO, &mut blocks[rest..BLOCK])
 }
 
 // A line's length and one byte more stand in the block, or the script's end.
@@ -51,19 +46,8 @@ fn filled(p: Place, blocks: &mut [u8]) -> Place
         at: 0,
         end,
         all_read: end < BLOCK,
-        pending: p.pending,
-        all_written: p.all_written,
-        turn: p.turn,
+        ..p
     }
-}
-
-fn fewer(a: usize, b: usize) -> usize
-    ensures { result ≡ min a b }
-{
-    if a < b {
-        return a;
-    }
-    b
 }
 
 // Past the line's byte 10. A line that is too long is given up at its 257th byte.
@@ -71,7 +55,7 @@ fn line_end(blocks: &[u8], at: usize, end: usize) -> usize
     requires { (at < end) × (end ≤ 65_536) × (131_072 ≤ length blocks.now) }
     ensures { LineEnd at end blocks.now result }
 {
-    let most = fewer(at + 257, end);
+    let most = (at + 257).min(end);
     piece_end(&blocks[..most], at)
 }
 
@@ -80,18 +64,12 @@ pub fn last(p: Place, marked: Marked) -> Upcoming
     requires { Roomy p }
     ensures { Roomy result.place × (result ≡ no_line p marked) }
 {
-    let place = Place {
-        at: p.at,
-        end: p.end,
-        all_read: p.all_read,
-        pending: p.pending,
-        all_written: p.all_written,
-        turn: MAX_TURNS,
-    };
-    let line = Line::Plain(Plain::Nothing);
     Upcoming {
-        line,
-        place,
+        line: Ok(Line::Nothing),
+        place: Place {
+            turn: MAX_TURNS,
+            ..p
+        },
         marked,
     }
 }
@@ -102,24 +80,13 @@ pub fn any_line(k: Reader, before: Place, marked: Marked, blocks: &mut [u8]) -> 
     ensures { (s : Sched) → NextLine (report_of k s) before marked blocks.old blocks.new result }
 {
     let p = filled(before, blocks);
-    let at = p.at;
-    let end = p.end;
-    if at >= end {
+    if p.at >= p.end {
         return last(p, marked);
     }
-    let stop = line_end(blocks, at, end);
-    let line = read_piece(k, &blocks[at..stop]);
-    let place = Place {
-        at: stop,
-        end,
-        all_read: p.all_read,
-        pending: p.pending,
-        all_written: p.all_written,
-        turn: p.turn,
-    };
+    let stop = line_end(blocks, p.at, p.end);
     Upcoming {
-        line,
-        place,
+        line: read_piece(k, &blocks[p.at..stop]),
+        place: Place { at: stop, ..p },
         marked,
     }
 }
@@ -129,39 +96,19 @@ fn is_tick(k: Reader, p: Place, blocks: &[u8]) -> bool
     requires { Within p × (131_072 ≤ length blocks.now) }
     ensures { result ≡ true → TickAhead k p blocks.now }
 {
-    let stage = k.stage;
-    let from = p.at;
-    let end = from + 6;
-    if p.end - p.at <= 256 {
-        return false;
-    }
-    if k.lines >= 1_000_000_000_000 {
-        return false;
-    }
-    match stage {
-        Stage::Heads => false,
-        Stage::Calls => is_same(&blocks[from..end], b"tick=\n"),
-        Stage::Ended => false,
-        Stage::Over => false,
-    }
+    p.end - p.at > 256
+        && k.lines < 1_000_000_000_000
+        && matches!(&k.stage, Stage::Calls)
+        && is_same(&blocks[p.at..p.at + 6], b"tick=\n")
 }
 
 fn tick_line(p: Place, marked: Marked) -> Upcoming
     requires { p.at ≤ 65_536 }
     ensures { result ≡ tick_line p marked }
 {
-    let place = Place {
-        at: p.at + 6,
-        end: p.end,
-        all_read: p.all_read,
-        pending: p.pending,
-        all_written: p.all_written,
-        turn: p.turn,
-    };
-    let line = Line::Call(Call::EndTick);
     Upcoming {
-        line,
-        place,
+        line: Ok(Line::Call(Call::EndTick)),
+        place: Place { at: p.at + 6, ..p },
         marked,
     }
 }

@@ -7,6 +7,8 @@ ghost use Rattle.std.specs.Prelude.{◌≡◌};
 ghost use Rattle.report_io.specs.Marks.{marked_report};
 
 use feed_plan::{Line, Next, Report};
+use settings::Refusal;
+use state::Sched;
 
 pub mod first;
 pub mod input;
@@ -48,34 +50,22 @@ pub struct Marked {
 // The next line, as it reads in the report's stage, and where the program is then. `marked` is the report's where lines `retired=` were taken before it.
 #[derive(Clone, Copy)]
 pub struct Upcoming {
-    pub line: Line,
+    pub line: Result<Line, Refusal>,
     pub place: Place,
     pub marked: Marked,
-}
-
-pub fn line_of(u: Upcoming) -> Line
-    ensures { result ≡ u.line }
-{
-    u.line
-}
-
-pub fn turn_of(u: Upcoming) -> u64
-    ensures { result ≡ u.place.turn }
-{
-    let place = u.place;
-    place.turn
 }
 
 // The report after a line, and after the lines `retired=` that were taken with it.
 pub fn marked_report(next: Next, u: Upcoming) -> Report
     ensures { result ≡ marked_report next.report u.marked }
 {
-    let marked = u.marked;
-    let mut report = next.report;
-    let mut sched = report.sched;
-    let progressed = marked.progressed;
-    sched.progressed = progressed;
-    report.sched = sched;
-    report.lines = marked.lines;
-    report
+    let progressed = u.marked.progressed;
+    Report {
+        lines: u.marked.lines,
+        sched: Sched {
+            progressed,
+            ..next.report.sched
+        },
+        ..next.report
+    }
 }

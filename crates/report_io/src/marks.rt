@@ -1,6 +1,6 @@
 // Lines `retired=` that follow each other are taken together: they print nothing, and of the scheduler they change the progressed marks alone. Every core
 // reports in every tick, so most lines of a script are such lines.
-ghost use Rattle.std.specs.Prelude.{◌≡◌, true, ◌+◌, ◌*◌, ◌<◌, ◌≤◌, ◌^◌, length, drop};
+ghost use Rattle.std.specs.Prelude.{◌≡◌, true, ◌+◌, ◌*◌, ◌<◌, ◌≤◌, ◌^◌, length, drop, unwrap_or, IfSome};
 ghost use Rattle.feed_plan.specs.Feeding.{reader_of};
 ghost use Rattle.report_io.specs.Blocks.{Within};
 ghost use Rattle.report_io.specs.Marks.{MarkedCore, MarksAhead, TakesMarks, LinesAhead, no_marks, marked_report, marked_by, place_after};
@@ -9,30 +9,23 @@ use crate::{Ahead, Marked, Place};
 use feed_plan::{Reader, Report, Stage};
 use text::lines::is_same;
 
-// The core that a line `retired=` at `at` names by one digit; 8 where no such line stands there.
-fn marked_core(text: &[u8], at: usize) -> usize
+// The core that a line `retired=` at `at` names by one digit.
+fn marked_core(text: &[u8], at: usize) -> Option<usize>
     requires { (at ≤ length text.now) × (length text.now ≤ 65_536) }
-    ensures { MarkedCore (drop at text.now) result }
+    ensures core { MarkedCore (drop at text.now) (unwrap_or result 8) }
+    ensures digit { IfSome result (λ c. c < 8) }
 {
-    let end = at + 10;
-    if text.len() < end {
-        return 8;
+    if text.len() < at + 10 {
+        return None;
     }
-    let line = &text[at..end];
-    if !is_same(&line[..8], b"retired=") {
-        return 8;
+    let line = &text[at..at + 10];
+    if !is_same(&line[..8], b"retired=") || line[9] != b'\n' {
+        return None;
     }
-    if line[9] != 10 {
-        return 8;
+    match line[8] {
+        digit @ b'0'..=b'7' => Some((digit - b'0') as usize),
+        _ => None,
     }
-    let digit = line[8];
-    if digit < 48 {
-        return 8;
-    }
-    if digit > 55 {
-        return 8;
-    }
-    (digit - 48) as usize
 }
 
 // The lines `retired=` in front of a text, each of a core that there is.
@@ -41,29 +34,21 @@ fn marks_ahead(text: &[u8], cores: usize, progressed: [bool; 8]) -> Ahead
     ensures { MarksAhead text.now cores progressed result }
 {
     let mut marks = progressed;
-    let mut at = 0;
-    let mut count = 0;
-    while at < text.len() {
-        let core = marked_core(text, at);
-        if core >= cores {
-            return Ahead {
-                progressed: marks,
-                count,
-            };
+    let most = text.len() / 10;
+    for count in 0..most {
+        match marked_core(text, 10 * count) {
+            Some(core) if core < cores => marks[core] = true,
+            _ => {
+                return Ahead {
+                    progressed: marks,
+                    count,
+                };
+            }
         }
-        if core >= 8 {
-            return Ahead {
-                progressed: marks,
-                count,
-            };
-        }
-        marks[core] = true;
-        at += 10;
-        count += 1;
     }
     Ahead {
         progressed: marks,
-        count,
+        count: most,
     }
 }
 
@@ -71,30 +56,16 @@ fn marks_ahead(text: &[u8], cores: usize, progressed: [bool; 8]) -> Ahead
 fn takes_marks(r: Report, p: Place) -> bool
     ensures { result ≡ true → TakesMarks r p }
 {
-    let stage = r.stage;
-    let sched = r.sched;
-    if sched.closed {
-        return false;
-    }
-    if r.lines > 999_999_900_000 {
-        return false;
-    }
-    if p.turn > 999_999_900_000 {
-        return false;
-    }
-    match stage {
-        Stage::Heads => false,
-        Stage::Calls => true,
-        Stage::Ended => false,
-        Stage::Over => false,
-    }
+    matches!(&r.stage, Stage::Calls)
+        && !r.sched.closed
+        && r.lines <= 999_999_900_000
+        && p.turn <= 999_999_900_000
 }
 
 fn no_marks(r: Report) -> Ahead
     ensures { result ≡ no_marks r }
 {
-    let sched = r.sched;
-    let progressed = sched.progressed;
+    let progressed = r.sched.progressed;
     Ahead {
         progressed,
         count: 0,
@@ -109,18 +80,13 @@ pub fn lines_ahead(r: Report, p: Place, blocks: &[u8]) -> Ahead
     if !takes_marks(r, p) {
         return no_marks(r);
     }
-    let sched = r.sched;
-    let progressed = sched.progressed;
-    let from = p.at;
-    let end = p.end;
-    marks_ahead(&blocks[from..end], sched.cores, progressed)
+    marks_ahead(&blocks[p.at..p.end], r.sched.cores, r.sched.progressed)
 }
 
 pub fn unmarked(r: Report) -> Marked
     ensures { result ≡ marked_by r (no_marks r) }
 {
-    let sched = r.sched;
-    let progressed = sched.progressed;
+    let progressed = r.sched.progressed;
     Marked {
         lines: r.lines,
         progressed,
@@ -143,12 +109,10 @@ pub fn marked_by(r: Report, a: Ahead) -> Marked
 pub fn reader_after(r: Report, m: Marked) -> Reader
     ensures { result ≡ reader_of (marked_report r m) }
 {
-    let stage = r.stage;
-    let head = r.head;
     Reader {
         lines: m.lines,
-        stage,
-        head,
+        stage: r.stage,
+        head: r.head,
     }
 }
 
@@ -159,10 +123,7 @@ pub fn place_after(p: Place, a: Ahead) -> Place
 {
     Place {
         at: p.at + 10 * a.count,
-        end: p.end,
-        all_read: p.all_read,
-        pending: p.pending,
-        all_written: p.all_written,
         turn: p.turn + a.count as u64,
+        ..p
     }
 }

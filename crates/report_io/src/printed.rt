@@ -16,9 +16,7 @@ fn pending_part(p: Place, blocks: &[u8]) -> &[u8]
     requires { Within p × (131_072 ≤ length blocks.now) }
     ensures { result.now ≡ pending_text p blocks.now }
 {
-    let from = BLOCK;
-    let end = BLOCK + p.pending;
-    &blocks[from..end]
+    &blocks[BLOCK..BLOCK + p.pending]
 }
 
 // The pending bytes go to standard output, where more than `most` are pending.
@@ -29,14 +27,10 @@ fn written(p: Place, most: usize, blocks: &[u8]) -> Place
     if p.pending <= most {
         return p;
     }
-    let is_written = io::write_all(STDOUT_FILENO, pending_part(p, blocks));
     Place {
-        at: p.at,
-        end: p.end,
-        all_read: p.all_read,
         pending: 0,
-        all_written: is_written,
-        turn: p.turn,
+        all_written: io::write_all(STDOUT_FILENO, pending_part(p, blocks)),
+        ..p
     }
 }
 
@@ -45,28 +39,19 @@ fn said(p: Place, next: Next, blocks: &mut [u8]) -> Place
     requires { Roomy p × (p.turn < 1_000_000_000_001) × Printable next × (131_072 ≤ length blocks.old) }
     ensures { Within result × (result ≡ printed_as (length (next_text next)) p) × Put blocks.old (65_536 + p.pending) (next_text next) blocks.new (65_536 + result.pending) }
 {
-    let from = BLOCK + p.pending;
-    let n = put_text(next, &mut blocks[from..]);
+    let n = put_text(next, &mut blocks[BLOCK + p.pending..]);
     Place {
-        at: p.at,
-        end: p.end,
-        all_read: p.all_read,
         pending: p.pending + n,
-        all_written: p.all_written,
         turn: p.turn + 1,
+        ..p
     }
 }
 
+#[tactic(auto, unfolding(crate::specs::Blocks::takes_lines))]
 fn takes_lines(r: Report) -> bool
     ensures { result ≡ takes_lines r.stage }
 {
-    let stage = r.stage;
-    match stage {
-        Stage::Heads => true,
-        Stage::Calls => true,
-        Stage::Ended => false,
-        Stage::Over => false,
-    }
+    matches!(&r.stage, Stage::Heads | Stage::Calls)
 }
 
 // After a line: what it prints, the lines `retired=` behind it, and the line that follows, where one does.
@@ -74,20 +59,15 @@ pub fn pass(u: Upcoming, next: Next, blocks: &mut [u8]) -> Upcoming
     requires { Roomy u.place × (u.place.turn < 1_000_000_000_001) × Printable next × (131_072 ≤ length blocks.old) }
     ensures { Passed u next blocks.old blocks.new result }
 {
-    let before = u.place;
-    let report = next.report;
-    let after = said(before, next, blocks);
+    let after = said(u.place, next, blocks);
     let p = written(after, BLOCK - 288, blocks);
-    if !p.all_written {
-        return last(p, unmarked(report));
+    if !p.all_written || !takes_lines(next.report) {
+        return last(p, unmarked(next.report));
     }
-    if !takes_lines(report) {
-        return last(p, unmarked(report));
-    }
-    let ahead = lines_ahead(report, p, blocks);
-    let marked = marked_by(report, ahead);
+    let ahead = lines_ahead(next.report, p, blocks);
+    let marked = marked_by(next.report, ahead);
     next_line(
-        reader_after(report, marked),
+        reader_after(next.report, marked),
         place_after(p, ahead),
         marked,
         blocks,
@@ -99,13 +79,10 @@ pub fn write_end(u: Upcoming, blocks: &[u8], n: usize) -> usize
     requires { Roomy u.place × (n ≤ 400) × (131_072 ≤ length blocks.now) }
     ensures { EndWritten n result }
 {
-    let before = u.place;
-    let p = written(before, 0, blocks);
-    if !p.all_written {
-        return 0;
+    let p = written(u.place, 0, blocks);
+    if p.all_written && io::write_all(STDOUT_FILENO, &blocks[..n]) {
+        n
+    } else {
+        0
     }
-    if !io::write_all(STDOUT_FILENO, &blocks[..n]) {
-        return 0;
-    }
-    n
 }

@@ -12,12 +12,8 @@ use lib.Seq.{take-length, drop-drop}
 use Rattle.text.specs.Lines.{cut}
 use Rattle.text.specs.Buffers.{Put}
 use Rattle.text.proofs.Pieces.{cut-nil}
-use Rattle.settings.specs.declared.Refusal.TheVariants as RefusalCases
-use Rattle.rcfg.specs.declared.Written.TheVariants as WrittenCases
-use Rattle.rcfg.specs.declared.Head as Heads
 use Rattle.script.specs.Invariants.{Kept}
 use Rattle.model.specs.declared.ThreadInfo.{ThreadInfo}
-use Rattle.state.specs.declared.Sched.{Sched}
 use Rattle.feed_plan.specs.declared.Stage.{Stage}
 use Rattle.feed_plan.specs.declared.Stage.TheVariants as StageCases
 use Rattle.feed_plan.specs.declared.Report.{Report}
@@ -29,7 +25,7 @@ use Rattle.feed_plan.specs.declared.Next.{Next}
 use Rattle.feed_plan.specs.Steps.{Prints, next_text}
 use Rattle.feed_plan.specs.Feeding.{Starts, Sayable, EndFits, EndAsked}
 use Rattle.feed_plan.proofs.Making.{end-over}
-use Rattle.report_plan.specs.Running.{Begins, printed_as}
+use Rattle.report_plan.specs.Running.{Begins}
 
 ---- the number of lines
 
@@ -47,11 +43,11 @@ module _ (t : List ℕ) (at n m : ℕ) (k : n + length (cut (drop at t)) ≡ m) 
 
 ---- the room
 
-pub short-small : (n r : ℕ) → r < 400 → true ≡ ltb r (288 * n + 400)
-short-small n r h = sym (lt-ltb r (288 * n + 400) (omega arith))
+pub short_small : (n r : ℕ) → r < 400 → true ≡ ltb r (288 * n + 400)
+short_small n r h = sym (lt-ltb r (288 * n + 400) (omega arith))
 
-pub short-is : (n r : ℕ) → 400 ≤ r → ltb ((r - 400) / 288) n ≡ ltb r (288 * n + 400)
-short-is n r h = go (ltb ((r - 400) / 288) n) refl
+pub short_is : (n r : ℕ) → 400 ≤ r → ltb ((r - 400) / 288) n ≡ ltb r (288 * n + 400)
+short_is n r h = go (ltb ((r - 400) / 288) n) refl
   where
     go : (t : Bool) → ltb ((r - 400) / 288) n ≡ t → t ≡ ltb r (288 * n + 400)
     go true e = let k : (r - 400) / 288 < n = ltb-true ((r - 400) / 288) n e in sym (lt-ltb r (288 * n + 400) (omega arith))
@@ -59,21 +55,8 @@ short-is n r h = go (ltb ((r - 400) / 288) n) refl
 
 ---- before the first line
 
-pub begins : (t : Bool) (r : Report) → t ≡ false → Starts r → Begins t (record { report = r; from = 0; at = 0 })
-begins t r e k = subst (λ (x : Bool). Begins x (record { report = r; from = 0; at = 0 })) (sym e) (record { from = refl; at = refl; report = k.report; valid = k.valid })
-
-over-begins : (h : Heads.Head) (s : Sched) → Begins true (record { report = record { lines = 0; stage = StageCases.Over; head = h; sched = s }; from = 0; at = 0 })
-unfolding report_meant
-over-begins h s = record { from = refl; at = refl; report = λ ts qs ls ws. refl; valid = λ ts qs ps ls ws m. record { kept = tt; memory = m; held = tt } }
-
-pub begins-over : (t : Bool) (h : Heads.Head) (s : Sched) → t ≡ true → Begins t (record { report = record { lines = 0; stage = StageCases.Over; head = h; sched = s }; from = 0; at = 0 })
-begins-over t h s e = subst (λ (x : Bool). Begins x (record { report = record { lines = 0; stage = StageCases.Over; head = h; sched = s }; from = 0; at = 0 })) (sym e) (over-begins h s)
-
-pub printed-short : (t : Bool) (n : ℕ) → t ≡ true → WrittenCases.Refused RefusalCases.Capacity ≡ printed_as t n
-printed-short t n e = sym (ap (λ (x : Bool). printed_as x n) e)
-
-pub printed-count : (t : Bool) (n : ℕ) → t ≡ false → WrittenCases.Count n ≡ printed_as t n
-printed-count t n e = sym (ap (λ (x : Bool). printed_as x n) e)
+pub begins : (r : Report) → Starts r → Begins (record { report = r; from = 0; at = 0 })
+begins r k = record { from = refl; at = refl; report = k.report; valid = k.valid }
 
 ---- a part of the buffer
 

@@ -1,10 +1,7 @@
 -- A whole script in memory: where reading and printing stand, and what the parts of a turn make of it.
-use Rattle.std.specs.Prelude.{ℕ, ◌+◌, ◌-◌, ◌<◌, ◌≤◌, ◌≡◌, Bool, true, false, List, ◌∷◌, length, take, drop}
+use Rattle.std.specs.Prelude.{ℕ, ◌-◌, ◌<◌, ◌≤◌, ◌≡◌, List, ◌∷◌, length, take, drop}
 use Rattle.text.specs.Lines.{cut}
 use Rattle.text.specs.Buffers.{Put}
-use Rattle.settings.specs.declared.Refusal.TheVariants as RefusalCases
-use Rattle.rcfg.specs.declared.Written.{Written}
-use Rattle.rcfg.specs.declared.Written.TheVariants as WrittenCases
 use Rattle.model.specs.declared.ThreadInfo.{ThreadInfo}
 use Rattle.record_reads.specs.declared.totals.Totals.{Totals}
 use Rattle.script.specs.Report as Definition
@@ -15,15 +12,10 @@ use Rattle.feed_plan.specs.Feeding.{LineRead, EndFits}
 use Rattle.report_plan.specs.declared.Progress.{Progress}
 use Rattle.report_plan.specs.declared.Reached.{Reached}
 
--- where there is too little room the run is over before it begins
-abbrev pub first_report : Bool → Definition.Report
-first_report false = Definition.start
-first_report true = record { lines = 0; stage = Definition.over }
-
-pub record Begins (short : Bool) (p : Progress) : Type 0 where
+pub record Begins (p : Progress) : Type 0 where
   pub from : p.from ≡ 0
   pub at : p.at ≡ 0
-  pub report : (ts : List ThreadInfo) (qs ls ws : List ℕ) → report_meant p.report ts qs ls ws ≡ first_report short
+  pub report : (ts : List ThreadInfo) (qs ls ws : List ℕ) → report_meant p.report ts qs ls ws ≡ Definition.start
   pub valid : (ts : List ThreadInfo) (qs ps ls ws : List ℕ) → Roomy ts qs ps ls ws → ReportValid p.report ts qs ps ls ws
 
 abbrev pub piece : Progress → Reached → List ℕ → List ℕ
@@ -42,7 +34,3 @@ pub record ProgressedAs (p : Progress) (q : Reached) (x : Next) (b b' : List ℕ
 
 unfoldable pub EndedAs : Progress → Totals → (b b' : List ℕ) → ℕ → Type 0
 EndedAs p n b b' e = (ts : List ThreadInfo) (qs ps ls ws : List ℕ) → EndFits p.report n ts qs ps ls ws → Put b p.at (Definition.finish (report_meant p.report ts qs ls ws)) b' e
-
-abbrev pub printed_as : Bool → ℕ → Written
-printed_as true n = WrittenCases.Refused RefusalCases.Capacity
-printed_as false n = WrittenCases.Count n

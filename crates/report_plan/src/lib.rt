@@ -2,18 +2,17 @@
 // Its public functions are parts for other crates: no host calls them.
 #![tactic(auto)]
 
-ghost use Rattle.std.specs.Prelude.{◌≡◌, cond, List, ℕ, ◌+◌, ◌*◌, ◌-◌, ◌<◌, ◌≤◌, ltb, length, take, drop};
+ghost use Rattle.std.specs.Prelude.{◌≡◌, List, ℕ, ◌+◌, ◌*◌, ◌-◌, ◌<◌, ◌≤◌, ltb, length, take, drop};
 ghost use Rattle.text.specs.Lines.{cut};
 ghost use Rattle.model.specs.declared.ThreadInfo.{ThreadInfo};
 ghost use Rattle.feed_plan.specs.Meant.{Few};
 ghost use Rattle.feed_plan.specs.Feeding.{Sayable, EndAsked};
-ghost use Rattle.report_plan.specs.Running.{Begins, ReachedAs, ProgressedAs, EndedAs, printed_as};
+ghost use Rattle.report_plan.specs.Running.{Begins, ReachedAs, ProgressedAs, EndedAs};
 
 use feed_plan::reading::read_line;
 use feed_plan::saying::{put_end, put_text};
 use feed_plan::start::start;
-use feed_plan::{Line, Next, Report, Stage};
-use rcfg::Written;
+use feed_plan::{Line, Next, Report};
 use record_reads::totals::Totals;
 use settings::Refusal;
 use text::lines::piece_end;
@@ -29,7 +28,7 @@ pub struct Progress {
 // What the next line says, and where it ends.
 #[derive(Clone, Copy)]
 pub struct Reached {
-    pub line: Line,
+    pub line: Result<Line, Refusal>,
     pub end: usize,
 }
 
@@ -39,6 +38,7 @@ pub fn line_count(script: &[u8]) -> usize
 {
     let mut at = 0;
     let mut n = 0;
+    // kept: a turn goes past a whole line, as far as the scan for its end came.
     while at < script.len() {
         at = piece_end(script, at);
         n += 1;
@@ -47,47 +47,20 @@ pub fn line_count(script: &[u8]) -> usize
 }
 
 // Whether a buffer has less room than so many lines may print.
+#[tactic(auto, using(crate::proofs::Parts::short_small, crate::proofs::Parts::short_is))]
 pub fn is_short(lines: usize, room: usize) -> bool
     ensures { result ≡ ltb room (288 * lines + 400) }
 {
-    if room < 400 {
-        return true;
-    }
-    (room - 400) / 288 < lines
+    room < 400 || (room - 400) / 288 < lines
 }
 
-// Where there is too little room nothing is read.
-pub fn turns(lines: usize, short: bool) -> usize
-    ensures { result ≡ cond short 0 lines }
+// Before the first line.
+#[tactic(auto, using(crate::proofs::Parts::begins))]
+pub fn begin() -> Progress
+    ensures { Begins result }
 {
-    if short {
-        return 0;
-    }
-    lines
-}
-
-// Before the first line, and over where there is too little room.
-pub fn begin(short: bool) -> Progress
-    ensures { Begins short result }
-{
-    let first = start();
-    if short {
-        let head = first.head;
-        let sched = first.sched;
-        let report = Report {
-            lines: 0,
-            stage: Stage::Over,
-            head,
-            sched,
-        };
-        return Progress {
-            report,
-            from: 0,
-            at: 0,
-        };
-    }
     Progress {
-        report: first,
+        report: start(),
         from: 0,
         at: 0,
     }
@@ -98,23 +71,11 @@ pub fn reach(p: Progress, script: &[u8]) -> Reached
     requires { (p.from < length script.now) × Few p.report.stage p.report.lines }
     ensures { ReachedAs p script.now result }
 {
-    let from = p.from;
-    let report = p.report;
-    let end = piece_end(script, from);
-    let line = read_line(report, &script[from..end]);
-    Reached { line, end }
-}
-
-pub fn report_of(p: Progress) -> Report
-    ensures { result ≡ p.report }
-{
-    p.report
-}
-
-pub fn line_of(q: Reached) -> Line
-    ensures { result ≡ q.line }
-{
-    q.line
+    let end = piece_end(script, p.from);
+    Reached {
+        line: read_line(p.report, &script[p.from..end]),
+        end,
+    }
 }
 
 // What the line prints is put behind what was printed before.
@@ -122,13 +83,11 @@ pub fn put_progress(p: Progress, q: Reached, next: Next, out: &mut [u8]) -> Prog
     requires { (p.at ≤ length out.old) × Sayable next (drop p.at out.old) }
     ensures { ProgressedAs p q next out.old out.new result }
 {
-    let at = p.at;
-    let report = next.report;
-    let n = put_text(next, &mut out[at..]);
+    let n = put_text(next, &mut out[p.at..]);
     Progress {
-        report,
+        report: next.report,
         from: q.end,
-        at: at + n,
+        at: p.at + n,
     }
 }
 
@@ -137,18 +96,6 @@ pub fn put_finish(p: Progress, totals: Totals, out: &mut [u8]) -> usize
     requires { (p.at ≤ length out.old) × EndAsked p.report totals (drop p.at out.old) }
     ensures { EndedAs p totals out.old out.new result }
 {
-    let at = p.at;
-    let report = p.report;
-    let n = put_end(report, totals, &mut out[at..]);
-    at + n
-}
-
-// "3+ text buffer short"
-pub fn printed(short: bool, n: usize) -> Written
-    ensures { result ≡ printed_as short n }
-{
-    if short {
-        return Written::Refused(Refusal::Capacity);
-    }
-    Written::Count(n)
+    let n = put_end(p.report, totals, &mut out[p.at..]);
+    p.at + n
 }

@@ -1,4 +1,6 @@
 -- What the loop over the lines of a script holds on to, from the first line to the end, and what a whole script makes of it.
+use Rattle.std.specs.Prelude.{Ok, Err}
+use Rattle.settings.specs.declared.Refusal.TheVariants as RefusalCases
 use Prim.Native.Nat.{ℕ, zero, suc, ◌+◌, ◌*◌, ◌<◌, ◌≤◌}
 use mathlib.Core.Path.{◌≡◌, refl, sym, ap, ◌∙◌, subst}
 use mathlib.Core.Bool.{Bool, true, false, cond}
@@ -12,12 +14,11 @@ use Rattle.text.specs.Lines.{cut}
 use Rattle.text.specs.Buffers.{Put}
 use Rattle.text.proofs.Pieces.{cut-nil}
 use Rattle.text.proofs.Puts.{put_then, put_same}
-use Rattle.rcfg.specs.declared.Written.{Written}
 use Rattle.rcfg.specs.Reading.{laid_meant}
 use Rattle.model.specs.declared.ThreadInfo.{ThreadInfo}
 use Rattle.script.specs.Report as Definition
-use Rattle.script.specs.Report.{over, feed, feeds, finish, whole}
-use Rattle.script.proofs.Streams.{whole-step, whole-end, whole-over}
+use Rattle.script.specs.Report.{feed, feeds, finish, whole}
+use Rattle.script.proofs.Streams.{whole-step, whole-end}
 use Rattle.sched.proofs.Memory.{Lists}
 use Rattle.feed_plan.specs.declared.Stage.{Stage}
 use Rattle.feed_plan.specs.declared.Stage.TheVariants as StageCases
@@ -26,7 +27,7 @@ use Rattle.feed_plan.specs.Meant.{report_meant, Roomy, ReportValid}
 use Rattle.feed_plan.specs.Steps.{Prints}
 use Rattle.feed_plan.proofs.Whole.{whole-counting}
 use Rattle.report_plan.specs.declared.Progress.{Progress}
-use Rattle.report_plan.specs.Running.{Begins, printed_as}
+use Rattle.report_plan.specs.Running.{Begins}
 use Rattle.report_plan.specs.Turning.{NextAsked, NextDone, FinishAsked}
 use Rattle.report_plan.proofs.Parts.{end-room}
 use Rattle.script_report.specs.Reporting.{LinesAsked, LinesDone, Unmoved, report_in, ReportDone}
@@ -163,28 +164,15 @@ module _ (first : Progress) (n : ℕ) (script b : List ℕ) (m : Lists) (a : Ask
 
 ---- a whole script
 
--- where the run is over nothing stands at the end
-over-quiet : (r : Report) (ts : List ThreadInfo) (qs ls ws : List ℕ) → (report_meant r ts qs ls ws).stage ≡ over → Prints r.stage → ⊥
-unfolding report_meant
-over-quiet r ts qs ls ws e h = go r.stage refl h
-  where
-    go : (g : Stage) → r.stage ≡ g → Prints g → ⊥
-    go StageCases.Heads q k = let z : ◌≡◌ {A = ℕ} 0 1 = cc in omega arith
-    go StageCases.Calls q k = let z : ◌≡◌ {A = ℕ} 0 1 = cc in omega arith
-    go StageCases.Ended q k = let z : ◌≡◌ {A = ℕ} 0 1 = cc in omega arith
-    go StageCases.Over q k = k
+-- where the buffer is short nothing is written
+module _ (script b : List ℕ) (m : Lists) where
+  pub script-short : true ≡ ltb (length b) (288 * length (cut script) + 400) → ReportDone script b b m.ts m.ts m.qs m.qs m.ps m.ps m.ls m.ls m.ws m.ws (Err RefusalCases.Capacity)
+  unfolding report_in
+  script-short s = record { answer = rw (sym s); unmoved = λ h. same_memory m m refl }
 
-module _ (script b : List ℕ) (m : Lists) (n : ℕ) (first : Progress) where
-  pub script-asked : (short : Bool) → short ≡ ltb (length b) (288 * length (cut script) + 400) → n ≡ cond short 0 (length (cut script)) → Begins short first → Roomy m.ts m.qs m.ps m.ls m.ws → Asked first n script b m
-  script-asked true s e k r =
-      record {
-        valid = k.valid m.ts m.qs m.ps m.ls m.ws r;
-        lines = omega arith;
-        within = omega (arith, k.at);
-        room = λ h. absurd (omega arith);
-        end = λ h. absurd (over-quiet first.report m.ts m.qs m.ls m.ws (ap (λ (d : Definition.Report). d.stage) (k.report m.ts m.qs m.ls m.ws)) h);
-      }
-  script-asked false s e k r =
+module _ (script b : List ℕ) (m : Lists) (n : ℕ) (first : Progress) (s : false ≡ ltb (length b) (288 * length (cut script) + 400)) (en : n ≡ length (cut script)) (k : Begins first) where
+  pub script-asked : Roomy m.ts m.qs m.ps m.ls m.ws → Asked first n script b m
+  script-asked r =
       let h : 288 * length (cut script) + 400 ≤ length b = ltb-false (length b) (288 * length (cut script) + 400) (sym s) in
       let all : n ≤ length (cut (drop first.from script)) = rw k.from (omega arith) in
       record {
@@ -195,28 +183,18 @@ module _ (script b : List ℕ) (m : Lists) (n : ℕ) (first : Progress) where
         end = λ q. omega (arith, k.at);
       }
 
-  module _ (b' : List ℕ) (z : Lists) (e : ℕ) (d : Done first n script b b' m z e) (r : Written) where
-    pub script-done : (short : Bool) → short ≡ ltb (length b) (288 * length (cut script) + 400) → n ≡ cond short 0 (length (cut script)) → Begins short first → r ≡ printed_as short e
-        → ReportDone script b b' m.ts z.ts m.qs z.qs m.ps z.ps m.ls z.ls m.ws z.ws r
-    unfolding report_in Definition.report
-    script-done true s en k er =
-        let t : List ℕ = due first n script m in
-        let none-due : t ≡ [] = ap (λ (x : Definition.Report). whole (feeds x (take n (cut (drop first.from script))))) (k.report m.ts m.qs m.ls m.ws) ∙ whole-over 0 (take n (cut (drop first.from script))) in
-        let same : b' ≡ b = d.text.bytes ∙ (ap (λ (x : List ℕ). paste b first.at x (length x)) none-due ∙ sym (paste-zero b first.at [])) in
-        record {
-          answer = ap (λ (x : Written). laid_meant x b') er ∙ rw (sym s, same);
-          unmoved = λ h. d.unmoved en;
-        }
-    script-done false s en k er =
-        let t : List ℕ = Definition.report script in
-        let lines : take n (cut (drop first.from script)) ≡ cut script = ap (λ (f : ℕ). take n (cut (drop f script))) k.from ∙ (ap (λ (j : ℕ). take j (cut script)) en ∙ take-length (cut script)) in
-        let is : due first n script m ≡ t =
-        ap (λ (x : Definition.Report). whole (feeds x (take n (cut (drop first.from script))))) (k.report m.ts m.qs m.ls m.ws) ∙ ap (λ (ls : List (List ℕ)). whole (feeds Definition.start ls)) lines in
-        let p : Put b 0 t b' e = subst (λ (x : ℕ). Put b x t b' e) k.at (put_same b first.at (due first n script m) t b' e is d.text) in
-        let z : 0 + length t ≡ length t = omega arith in
-        let bytes : b' ≡ t ++ drop (length t) b = p.bytes ∙ rw (take-length t, z) in
-        let count : e ≡ length t = p.end ∙ z in
-        record {
-          answer = ap (λ (x : Written). laid_meant x b') er ∙ rw (sym s, bytes, count);
-          unmoved = λ h. absurd (omega (arith, ltb-false (length b) (288 * length (cut script) + 400) (sym s)));
-        }
+  pub script-done : (b' : List ℕ) (z : Lists) (e : ℕ) → Done first n script b b' m z e → ReportDone script b b' m.ts z.ts m.qs z.qs m.ps z.ps m.ls z.ls m.ws z.ws (Ok e)
+  unfolding report_in Definition.report
+  script-done b' z e d =
+      let t : List ℕ = Definition.report script in
+      let lines : take n (cut (drop first.from script)) ≡ cut script = ap (λ (f : ℕ). take n (cut (drop f script))) k.from ∙ (ap (λ (j : ℕ). take j (cut script)) en ∙ take-length (cut script)) in
+      let is : due first n script m ≡ t =
+      ap (λ (x : Definition.Report). whole (feeds x (take n (cut (drop first.from script))))) (k.report m.ts m.qs m.ls m.ws) ∙ ap (λ (ls : List (List ℕ)). whole (feeds Definition.start ls)) lines in
+      let p : Put b 0 t b' e = subst (λ (x : ℕ). Put b x t b' e) k.at (put_same b first.at (due first n script m) t b' e is d.text) in
+      let zero-more : 0 + length t ≡ length t = omega arith in
+      let bytes : b' ≡ t ++ drop (length t) b = p.bytes ∙ rw (take-length t, zero-more) in
+      let count : e ≡ length t = p.end ∙ zero-more in
+      record {
+        answer = rw (sym s, bytes, count);
+        unmoved = λ h. absurd (omega (arith, ltb-false (length b) (288 * length (cut script) + 400) (sym s)));
+      }

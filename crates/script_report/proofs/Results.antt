@@ -1,6 +1,6 @@
 -- What the callees of `feed_next` and `finish_at` leave, put together.
 use Prim.Native.Nat.{ℕ, ◌<◌, ◌≤◌}
-use mathlib.Core.Path.{◌≡◌, ap, ◌∙◌, subst}
+use mathlib.Core.Path.{◌≡◌, ap, ◌∙◌}
 use mathlib.Core.List.{List}
 use native.Mathlib.Omega.{arith}
 use lib.ListN.{length, drop, length-drop}
@@ -10,8 +10,6 @@ use Rattle.record_reads.specs.Totals.{totals_of, TotalsFit}
 use Rattle.threads.specs.Slice.{threads_in}
 use Rattle.script.specs.Report.{finish}
 use Rattle.model.specs.declared.ThreadInfo.{ThreadInfo}
-use Rattle.feed_plan.specs.declared.Report.{Report}
-use Rattle.feed_plan.specs.declared.Line.{Line}
 use Rattle.feed_plan.specs.declared.Next.{Next}
 use Rattle.feed_plan.specs.Meant.{report_meant, Few, ReportValid}
 use Rattle.feed_plan.specs.Steps.{records_in}
@@ -27,31 +25,23 @@ module _ (p : Progress) (script b : List ℕ) (ts : List ThreadInfo) (qs ps ls w
   pub reachable : (p.from < length script) × Few p.report.stage p.report.lines
   reachable = (a.on, turn-few p script b ts qs ps ls ws a)
 
-  module _ (q : Reached) (k : ReachedAs p script q) (r : Report) (er : r ≡ p.report) (l : Line) (el : l ≡ q.line) where
-    module _ (ts' : List ThreadInfo) (qs' ps' ls' ws' : List ℕ) (x : Next) (c : LineDone r l ts ts' qs qs' ps ps' ls ls' ws ws' x) where
-      line-done : LineDone p.report q.line ts ts' qs qs' ps ps' ls ls' ws ws' x
-      line-done =
-          subst (λ (j : Report). LineDone j q.line ts ts' qs qs' ps ps' ls ls' ws ws' x) er
-          (subst (λ (j : Line). LineDone r j ts ts' qs qs' ps ps' ls ls' ws ws' x) el c)
-
+  module _ (q : Reached) (k : ReachedAs p script q) where
+    module _ (ts' : List ThreadInfo) (qs' ps' ls' ws' : List ℕ) (x : Next) (c : LineDone p.report q.line ts ts' qs qs' ps ps' ls ls' ws ws' x) where
       pub sayable : (p.at ≤ length b) × Sayable x (drop p.at b)
-      sayable = (omega (arith, a.room), turn-sayable p script b ts qs ps ls ws a q k x ts' qs' ps' ls' ws' line-done)
+      sayable = (omega (arith, a.room), turn-sayable p script b ts qs ps ls ws a q k x ts' qs' ps' ls' ws' c)
 
       pub turned : Long ts ts' qs qs' ps ps' ls ls' ws ws' → (b' : List ℕ) (y : Progress) → ProgressedAs p q x b b' y → NextDone p script b b' ts ts' qs qs' ps ps' ls ls' ws ws' y
-      turned g b' y s = turn-done p script b ts qs ps ls ws a q k x ts' qs' ps' ls' ws' line-done (roomy-kept ts ts' qs qs' ps ps' ls ls' ws ws' g a.valid.memory) b' y s
+      turned g b' y s = turn-done p script b ts qs ps ls ws a q k x ts' qs' ps' ls' ws' c (roomy-kept ts ts' qs qs' ps ps' ls ls' ws ws' g a.valid.memory) b' y s
 
 ---- the end of a script
 
-module _ (p : Progress) (b : List ℕ) (ts : List ThreadInfo) (a : FinishAsked p b ts) (r : Report) (er : r ≡ p.report) (n : ℕ) (e : n ≡ records_in r.stage r.sched) where
-  count-is : n ≡ records_in p.report.stage p.report.sched
-  count-is = e ∙ ap (λ (j : Report). records_in j.stage j.sched) er
-
+module _ (p : Progress) (b : List ℕ) (ts : List ThreadInfo) (a : FinishAsked p b ts) (n : ℕ) (e : n ≡ records_in p.report.stage p.report.sched) where
   pub totalable : (n ≤ length ts) × TotalsFit (totals_of (threads_in ts n))
-  totalable = totals-fit p.report ts n count-is a.qs a.ps a.ls a.ws a.valid
+  totalable = totals-fit p.report ts n e a.qs a.ps a.ls a.ws a.valid
 
   module _ (x : Totals) (c : x ≡ totals_of (threads_in ts n)) where
     end-fits : (qs ps ls ws : List ℕ) → ReportValid p.report ts qs ps ls ws → EndFits p.report x ts qs ps ls ws
-    end-fits qs ps ls ws v = record { valid = v; totals = c ∙ ap (λ (k : ℕ). totals_of (threads_in ts k)) count-is }
+    end-fits qs ps ls ws v = record { valid = v; totals = c ∙ ap (λ (k : ℕ). totals_of (threads_in ts k)) e }
 
     pub end-asked : (p.at ≤ length b) × EndAsked p.report x (drop p.at b)
     end-asked = (

@@ -1,9 +1,9 @@
 -- A whole script in memory: what its loop asks and leaves, and what `report` promises.
-use Rattle.std.specs.Prelude.{ℕ, ◌+◌, ◌*◌, ◌<◌, ◌≤◌, ◌≡◌, cond, List, ◌++◌, ltb, length, take, drop}
+use Rattle.settings.specs.declared.Refusal.{Refusal}
+use Rattle.std.specs.Prelude.{ℕ, ◌+◌, ◌*◌, ◌<◌, ◌≤◌, ◌≡◌, cond, List, ◌++◌, ltb, length, take, drop, Result}
 use Rattle.std.proofs.Math.Option.{none, some}
 use Rattle.text.specs.Lines.{cut}
 use Rattle.text.specs.Buffers.{Put, Laid}
-use Rattle.rcfg.specs.declared.Written.{Written}
 use Rattle.rcfg.specs.Reading.{laid_meant}
 use Rattle.model.specs.declared.ThreadInfo.{ThreadInfo}
 use Rattle.script.specs.Report as Definition
@@ -41,6 +41,6 @@ report_in script b =
     cond (ltb (length b) (288 * length (cut script) + 400)) (record { refusal = some 3; count = 0; buffer = b }) (record { refusal = none; count = length t; buffer = t ++ drop (length t) b })
 
 -- What `report` promises. Refused, it leaves the lent memory as it was; what that memory holds after a report is left open.
-pub record ReportDone (script b b' : List ℕ) (ts ts' : List ThreadInfo) (qs qs' ps ps' ls ls' ws ws' : List ℕ) (r : Written) : Type 0 where
+pub record ReportDone (script b b' : List ℕ) (ts ts' : List ThreadInfo) (qs qs' ps ps' ls ls' ws ws' : List ℕ) (r : Result ℕ Refusal) : Type 0 where
   pub answer : laid_meant r b' ≡ report_in script b
   pub unmoved : length b < 288 * length (cut script) + 400 → Unmoved ts ts' qs qs' ps ps' ls ls' ws ws'

@@ -12,11 +12,8 @@ ghost use Rattle.script_report.specs.Reporting.{LinesAsked, LinesDone, ReportDon
 use feed::advance;
 use feed_plan::saying::record_count;
 use model::ThreadInfo;
-use rcfg::Written;
-use report_plan::{
-    Progress, begin, is_short, line_count, line_of, printed, put_finish, put_progress, reach,
-    report_of, turns,
-};
+use report_plan::{Progress, begin, is_short, line_count, put_finish, put_progress, reach};
+use settings::Refusal;
 use threads::totals;
 
 // The next line of a script fed, and what it prints put behind what was printed before.
@@ -34,7 +31,7 @@ pub fn feed_next(
     ensures { NextDone p script.now out.old out.new threads.old threads.new queue.old queue.new prios.old prios.new log.old log.new lanes.old lanes.new result }
 {
     let q = reach(p, script);
-    let next = advance(report_of(p), line_of(q), threads, queue, prios, log, lanes);
+    let next = advance(p.report, q.line, threads, queue, prios, log, lanes);
     put_progress(p, q, next, out)
 }
 
@@ -44,8 +41,7 @@ pub fn finish_at(p: Progress, out: &mut [u8], threads: &[ThreadInfo]) -> usize
     ensures { (qs ps ls ws : List ℕ) → ReportValid p.report threads.now qs ps ls ws
         → Put out.old p.at (finish (report_meant p.report threads.now qs ls ws)) out.new result }
 {
-    let n = record_count(report_of(p));
-    let sums = totals(threads, n);
+    let sums = totals(threads, record_count(p.report));
     put_finish(p, sums, out)
 }
 
@@ -65,10 +61,8 @@ fn feed_lines(
     ensures { LinesDone first n script.now out.old out.new threads.old threads.new queue.old queue.new prios.old prios.new log.old log.new lanes.old lanes.new result }
 {
     let mut p = first;
-    let mut i = 0;
-    while i < n {
+    for _ in 0..n {
         p = feed_next(p, script, out, threads, queue, prios, log, lanes);
-        i += 1;
     }
     finish_at(p, out, threads)
 }
@@ -83,14 +77,23 @@ pub fn report(
     prios: &mut [u32],
     log: &mut [u64],
     lanes: &mut [u64],
-) -> Written
+) -> Result<usize, Refusal>
     requires { Roomy threads.old queue.old prios.old log.old lanes.old }
     ensures { ReportDone script.now out.old out.new threads.old threads.new queue.old queue.new prios.old prios.new log.old log.new lanes.old lanes.new result }
 {
     let lines = line_count(script);
-    let short = is_short(lines, out.len());
-    let first = begin(short);
-    let n = turns(lines, short);
-    let end = feed_lines(first, n, script, out, threads, queue, prios, log, lanes);
-    printed(short, end)
+    if is_short(lines, out.len()) {
+        return Err(Refusal::Capacity);
+    }
+    Ok(feed_lines(
+        begin(),
+        lines,
+        script,
+        out,
+        threads,
+        queue,
+        prios,
+        log,
+        lanes,
+    ))
 }

@@ -1,21 +1,19 @@
+use Prim.Native.Nat.{ℕ}
 use native.Mathlib.Omega.{arith}
+use lib.ListN.{length-replicate}
 use Rattle.report.proofs.Keeping.{none_yet_lem}
 use Rattle.report.proofs.Taking.{sized, first-few}
 use Rattle.report.proofs.main.Goals as goal
 
 pub first_line-first-requires : goal.first_line-first-requires
-first_line-first-requires c =
-    let m = sized _ _ _ _ _ c.blank_records-threads.ensures c.blank_words-queue.ensures c.blank_words-prios.ensures c.blank_log-log.ensures c.blank_lanes-lanes.ensures in
-    (first-few c.start-r.result _ _ _ _ _ c.start-r.ensures m, omega (arith, c.blank_blocks-blocks.ensures))
+first_line-first-requires c = (first-few c.start-r.result _ _ _ _ _ c.start-r.ensures (sized c.first_thread-threads.result), omega (arith, length-replicate {A = ℕ} 131_072 0))
 
-pub start-requires : goal.start-requires
-start-requires c =
-    let m = sized _ _ _ _ _ c.blank_records-threads.ensures c.blank_words-queue.ensures c.blank_words-prios.ensures c.blank_log-log.ensures c.blank_lanes-lanes.ensures in
+pub run-requires : goal.run-requires
+run-requires c =
     let f = c.first_line-first in
     record {
-      valid = c.start-r.ensures.valid _ _ _ _ _ m;
+      valid = c.start-r.ensures.valid _ _ _ _ _ (sized c.first_thread-threads.result);
       awaits = f.ensures.awaits;
-      turns = c.turn_of.ensures;
-      room = omega (arith, c.blank_blocks-blocks.ensures, f.auto.blocks);
+      room = omega (arith, length-replicate {A = ℕ} 131_072 0);
       so_far = none_yet_lem _ _ _ _ _ _ _ _ c.start-r.ensures f.ensures;
     }

@@ -3,8 +3,8 @@ use Rattle.report_io.specs.Blocks.{last_turn}
 use Rattle.report.specs.Running.{Runnable}
 use Rattle.report.proofs.run.Given as goal
 
-abbrev pub invariant-loop-i : goal.invariant-loop-i
-invariant-loop-i l = Runnable l.r l.u l.i l.threads l.blocks l.queue l.prios l.log l.lanes
+abbrev pub invariant-loop-u : goal.invariant-loop-u
+invariant-loop-u l = Runnable l.r l.u l.threads l.blocks l.queue l.prios l.log l.lanes
 
-abbrev pub decreases-loop-i : goal.decreases-loop-i
-decreases-loop-i l = last_turn - l.i
+abbrev pub decreases-loop-u : goal.decreases-loop-u
+decreases-loop-u l = last_turn - l.u.place.turn

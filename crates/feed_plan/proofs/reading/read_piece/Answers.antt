@@ -1,7 +1,5 @@
-use mathlib.Core.Path.{sym, subst}
-use Rattle.feed_plan.specs.Steps.{Rests}
 use Rattle.feed_plan.specs.Feeding.{report_of}
-use Rattle.feed_plan.proofs.Lines.{heads-feed, calls-feed, ended-feed, over-feed, heads-fit, calls-fit}
+use Rattle.feed_plan.proofs.Lines.{heads-feed, calls-feed, rests-read, heads-fit, calls-fit}
 use Rattle.feed_plan.proofs.reading.read_piece.Goals as goal
 
 pub returns-in-Heads : goal.returns-in-Heads
@@ -13,9 +11,4 @@ returns-in-Calls c =
     λ s. record { says = calls-feed (report_of c.args.k s) c.args.piece.now c.read_calling.result c.in-Calls.is c.read_calling.ensures.says; fits = calls-fit (report_of c.args.k s) c.read_calling.result c.in-Calls.is c.requires c.read_calling.ensures.fits }
 
 pub returns-in-Ended : goal.returns-in-Ended
-returns-in-Ended c =
-    λ s. record { says = ended-feed (report_of c.args.k s) c.args.piece.now c.in-Ended.is; fits = subst Rests (sym c.in-Ended.is) tt }
-
-pub returns-in-Over : goal.returns-in-Over
-returns-in-Over c =
-    λ s. record { says = over-feed (report_of c.args.k s) c.args.piece.now c.in-Over.is; fits = subst Rests (sym c.in-Over.is) tt }
+returns-in-Ended c = λ s. rests-read (report_of c.args.k s) c.args.piece.now c.in-Ended.is

@@ -2,4 +2,4 @@ use Rattle.feed_plan.proofs.Whole.{starts}
 use Rattle.feed_plan.proofs.start.start.Goals as goal
 
 pub returns : goal.returns
-returns c = starts _ _ c.new-head.ensures
+returns c = starts _ _ c.new.ensures

@@ -3,14 +3,10 @@ use mathlib.Core.Logic.{inl, inr}
 use Rattle.report_io.specs.Blocks.{EndWritten}
 use Rattle.report_io.proofs.printed.write_end.Goals as goal
 
-pub returns-then-not-p : goal.returns-then-not-p
+pub returns-then-write_all : goal.returns-then-write_all
 unfolding EndWritten
-returns-then-not-p c = inl refl
+returns-then-write_all c = inr refl
 
-pub returns-then-not-write_all : goal.returns-then-not-write_all
+pub returns-else-p : goal.returns-else-p
 unfolding EndWritten
-returns-then-not-write_all c = inl refl
-
-pub returns : goal.returns
-unfolding EndWritten
-returns c = inr refl
+returns-else-p c = inl refl

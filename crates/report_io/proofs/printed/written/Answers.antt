@@ -9,5 +9,5 @@ returns-then-p-most c =
 pub returns : goal.returns
 returns c = (
   record { within = record { begins = c.requires.0.begins; ends = c.requires.0.ends; pending = omega arith; turns = c.requires.0.turns }; room = omega arith },
-  written_out c.args.most c.args.p c.write_all-is_written.result (omega arith),
+  written_out c.args.most c.args.p c.write_all.result (omega arith),
 )
