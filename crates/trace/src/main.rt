@@ -6,60 +6,52 @@ ghost use Rattle.std.specs.Prelude.{◌≡◌, List, ℕ, ◌≤◌, length};
 ghost use Rattle.state.specs.Memory.{memory};
 ghost use Rattle.state.specs.State.{Valid};
 
-use model::{CallAnswer, ThreadInfo};
+use model::ThreadInfo;
 use records::change::first_thread;
-use sched::Call;
-use sched_array::{apply_in, asked_in, new_in};
+use sched::{Call, apply};
+use sched_new::new;
 use settings::{SchedConfig, SchedPolicy};
 use state::{Capacities, Sched};
+use thread_questions::{bits_of, has_live_threads, has_runnable_threads, is_deadlocked};
 use trace_answers::{print_applied, print_bad, print_created, print_shown};
 use trace_read::lines::{read_count, read_line};
 use trace_read::{Line, Setup};
 use trace_records::history::print_rest;
 use trace_records::thread::print_thread;
 use trace_state::cores::{print_figures, print_front};
-use trace_text::out::least;
-
-// The scheduler between two lines, with its records.
-#[derive(Clone, Copy)]
-struct Turn {
-    sched: Sched,
-    threads: [ThreadInfo; 256],
-}
 
 fn main() {
+    let mut threads = [first_thread(0); 256];
     let mut queue = [0u32; 256];
     let mut prios = [0u32; 256];
     let mut log = [0u64; 1024];
     let mut lanes = [0u64; 65616];
     // more lines than that are not read
-    let n = least(read_count(), 1_000_000_000);
-    run(n, &mut queue, &mut prios, &mut log, &mut lanes);
-}
-
-fn print_threads(threads: [ThreadInfo; 256], n: usize)
-    requires { n ≤ 256 }
-{
-    let all = threads;
-    let mut i = 0;
-    while i < n {
-        let t = all[i];
-        print_thread(t);
-        i += 1;
-    }
+    let n = read_count().min(1_000_000_000);
+    run(
+        n,
+        &mut threads,
+        &mut queue,
+        &mut prios,
+        &mut log,
+        &mut lanes,
+    );
 }
 
 // The whole state.
-fn show(s: Sched, threads: [ThreadInfo; 256], queue: &[u32], log: &[u64], lanes: &[u64])
-    requires { (ps : List ℕ) × Valid s (memory threads queue.now ps log.now lanes.now) }
+fn show(s: Sched, threads: &[ThreadInfo], queue: &[u32], log: &[u64], lanes: &[u64])
+    requires { (ps : List ℕ) × Valid s (memory threads.now queue.now ps log.now lanes.now) }
 {
     print_shown();
     print_front(s, queue);
-    let n = s.threads;
-    print_threads(threads, n);
-    let asked = asked_in(s, threads);
-    print_rest(s, asked.live, asked.runnable, asked.deadlocked, log, lanes);
-    let f = asked.bits;
+    for t in thread_questions::threads(s, threads) {
+        print_thread(*t);
+    }
+    let live = has_live_threads(s, threads);
+    let runnable = has_runnable_threads(s, threads);
+    let deadlocked = is_deadlocked(s, threads);
+    print_rest(s, live, runnable, deadlocked, log, lanes);
+    let f = bits_of(s, threads);
     print_figures(f.waiting, f.response, f.turnaround, f.utilization);
 }
 
@@ -67,36 +59,30 @@ fn show(s: Sched, threads: [ThreadInfo; 256], queue: &[u32], log: &[u64], lanes:
 fn start(
     setup: Setup,
     s: Sched,
-    threads: [ThreadInfo; 256],
+    threads: &mut [ThreadInfo],
     queue: &[u32],
     prios: &mut [u32],
     log: &mut [u64],
     lanes: &[u64],
-) -> Turn
-    requires { Valid s (memory threads queue.now prios.old log.old lanes.now) }
-    ensures { Valid result.sched (memory result.threads queue.now prios.new log.new lanes.now) }
+) -> Sched
+    requires { Valid s (memory threads.old queue.now prios.old log.old lanes.now) }
+    ensures { Valid result (memory threads.new queue.now prios.new log.new lanes.now) }
 {
-    let config = setup.config;
-    let capacities = setup.capacities;
-    let cores = setup.cores;
-    let entry_pc = setup.entry_pc;
-    let started = new_in(
-        config, cores, capacities, entry_pc, threads, queue, prios, log, lanes,
+    let created = new(
+        setup.config,
+        setup.cores,
+        setup.capacities,
+        setup.entry_pc,
+        threads,
+        queue,
+        prios,
+        log,
+        lanes,
     );
-    let records = started.threads;
-    let created = started.created;
-    let answer = created.answer;
-    let sched = created.sched;
-    print_created(answer);
-    match answer {
-        CallAnswer::Taken => Turn {
-            sched,
-            threads: records,
-        },
-        CallAnswer::Refused(_) => Turn {
-            sched: s,
-            threads: records,
-        },
+    print_created(created.answer);
+    match created.answer {
+        Ok(()) => created.sched,
+        Err(_) => s,
     }
 }
 
@@ -104,57 +90,57 @@ fn start(
 fn step(
     s: Sched,
     call: Call,
-    threads: [ThreadInfo; 256],
+    threads: &mut [ThreadInfo],
     queue: &mut [u32],
     prios: &mut [u32],
     log: &mut [u64],
     lanes: &mut [u64],
-) -> Turn
-    requires { Valid s (memory threads queue.old prios.old log.old lanes.old) }
-    ensures { Valid result.sched (memory result.threads queue.new prios.new log.new lanes.new) }
+) -> Sched
+    requires { Valid s (memory threads.old queue.old prios.old log.old lanes.old) }
+    ensures { Valid result (memory threads.new queue.new prios.new log.new lanes.new) }
 {
-    let stepped = apply_in(s, call, threads, queue, prios, log, lanes);
-    let records = stepped.threads;
-    let applied = stepped.applied;
-    let sched = applied.sched;
+    let applied = apply(s, call, threads, queue, prios, log, lanes);
     print_applied(applied);
-    Turn {
-        sched,
-        threads: records,
-    }
+    applied.sched
 }
 
 // One line of the script.
 fn trace_line(
     s: Sched,
     line: Line,
-    threads: [ThreadInfo; 256],
+    threads: &mut [ThreadInfo],
     queue: &mut [u32],
     prios: &mut [u32],
     log: &mut [u64],
     lanes: &mut [u64],
-) -> Turn
-    requires { Valid s (memory threads queue.old prios.old log.old lanes.old) }
-    ensures { Valid result.sched (memory result.threads queue.new prios.new log.new lanes.new) }
+) -> Sched
+    requires { Valid s (memory threads.old queue.old prios.old log.old lanes.old) }
+    ensures { Valid result (memory threads.new queue.new prios.new log.new lanes.new) }
 {
     match line {
         Line::New(setup) => start(setup, s, threads, queue, prios, log, lanes),
         Line::Call(call) => step(s, call, threads, queue, prios, log, lanes),
         Line::Show => {
             show(s, threads, queue, log, lanes);
-            Turn { sched: s, threads }
+            s
         }
         Line::Bad => {
             print_bad();
-            Turn { sched: s, threads }
+            s
         }
     }
 }
 
 // The scheduler that there is before a script's first line.
-fn first(queue: &[u32], prios: &mut [u32], log: &mut [u64], lanes: &[u64]) -> Turn
-    requires { (length queue.now ≡ 256) × (length prios.old ≡ 256) × (length log.old ≡ 1024) × (length lanes.now ≡ 65616) }
-    ensures { Valid result.sched (memory result.threads queue.now prios.new log.new lanes.now) }
+fn first(
+    threads: &mut [ThreadInfo],
+    queue: &[u32],
+    prios: &mut [u32],
+    log: &mut [u64],
+    lanes: &[u64],
+) -> Sched
+    requires { (length threads.old ≡ 256) × (length queue.now ≡ 256) × (length prios.old ≡ 256) × (length log.old ≡ 1024) × (length lanes.now ≡ 65616) }
+    ensures { Valid result (memory threads.new queue.now prios.new log.new lanes.now) }
 {
     let config = SchedConfig {
         policy: SchedPolicy::RoundRobin,
@@ -166,33 +152,25 @@ fn first(queue: &[u32], prios: &mut [u32], log: &mut [u64], lanes: &[u64]) -> Tu
         events: 1,
         segments: 1,
     };
-    let t = first_thread(0);
-    let threads = [t; 256];
-    let started = new_in(config, 1, capacities, 0, threads, queue, prios, log, lanes);
-    let records = started.threads;
-    let created = started.created;
-    let sched = created.sched;
-    Turn {
-        sched,
-        threads: records,
-    }
+    let created = new(config, 1, capacities, 0, threads, queue, prios, log, lanes);
+    created.sched
 }
 
 // The first n lines of the script.
-fn run(n: usize, queue: &mut [u32], prios: &mut [u32], log: &mut [u64], lanes: &mut [u64])
-    requires { (n ≤ 1000000000) × (length queue.old ≡ 256) × (length prios.old ≡ 256) × (length log.old ≡ 1024) × (length lanes.old ≡ 65616) }
+fn run(
+    n: usize,
+    threads: &mut [ThreadInfo],
+    queue: &mut [u32],
+    prios: &mut [u32],
+    log: &mut [u64],
+    lanes: &mut [u64],
+)
+    requires { (n ≤ 1000000000) × (length threads.old ≡ 256) × (length queue.old ≡ 256) × (length prios.old ≡ 256) × (length log.old ≡ 1024)
+        × (length lanes.old ≡ 65616) }
 {
-    let turn = first(queue, prios, log, lanes);
-    let mut s = turn.sched;
-    let mut threads = turn.threads;
-    let mut i = 0;
-    while i < n {
+    let mut s = first(threads, queue, prios, log, lanes);
+    for _ in 0..n {
         let line = read_line();
-        let next = trace_line(s, line, threads, queue, prios, log, lanes);
-        let sched = next.sched;
-        let records = next.threads;
-        s = sched;
-        threads = records;
-        i += 1;
+        s = trace_line(s, line, threads, queue, prios, log, lanes);
     }
 }

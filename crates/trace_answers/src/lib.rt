@@ -5,7 +5,7 @@
 
 ghost use Rattle.std.specs.Prelude.{◌≤◌, length};
 
-use model::{CallAnswer, JoinOutcome, OptionOut, SwitchWords};
+use model::{JoinOutcome, SwitchOut, SwitchWords};
 use sched::{Applied, Outcome};
 use settings::Refusal;
 use switches::{SwitchList, switch_of};
@@ -31,18 +31,16 @@ fn put_joined(out: &mut [u8], at: usize, outcome: JoinOutcome) -> usize
     }
 }
 
-fn put_out(out: &mut [u8], at: usize, left: OptionOut) -> usize
+fn put_out(out: &mut [u8], at: usize, left: Option<SwitchOut>) -> usize
     requires { at ≤ length out.old }
     ensures { result ≤ length out.old }
 {
     match left {
-        OptionOut::None => put_text(out, at, b" - -"),
-        OptionOut::Some(o) => {
-            let tid = o.tid;
-            let reason = o.reason;
-            let a = put_spaced(out, at, tid.0 as u64);
+        None => put_text(out, at, b" - -"),
+        Some(o) => {
+            let a = put_spaced(out, at, o.tid.0 as u64);
             let b = put_text(out, a, b" ");
-            put_reason(out, b, reason)
+            put_reason(out, b, o.reason)
         }
     }
 }
@@ -53,27 +51,20 @@ fn put_switch(out: &mut [u8], at: usize, w: SwitchWords) -> usize
     ensures { result ≤ length out.old }
 {
     let e = switch_of(w);
-    let core = e.core;
     let left = e.out;
-    let inn = e.inn;
     let a = put_text(out, at, b", ");
-    let b = put_number(out, a, core.0 as u64);
+    let b = put_number(out, a, e.core.0 as u64);
     let c = put_out(out, b, left);
-    put_tid(out, c, inn)
+    put_tid(out, c, e.inn)
 }
 
 fn put_switches(out: &mut [u8], at: usize, list: SwitchList) -> usize
     requires { (at ≤ length out.old) × (list.count ≤ 8) }
     ensures { result ≤ length out.old }
 {
-    let entries = list.entries;
-    let n = list.count;
     let mut to = put_text(out, at, b"switched");
-    let mut i = 0;
-    while i < n {
-        let e = entries[i];
-        to = put_switch(out, to, e);
-        i += 1;
+    for e in &list.entries[..list.count] {
+        to = put_switch(out, to, *e);
     }
     to
 }
@@ -82,27 +73,25 @@ fn put_applied(out: &mut [u8], at: usize, done: Applied) -> usize
     requires { (at ≤ length out.old) × (done.switches.count ≤ 8) }
     ensures { result ≤ length out.old }
 {
-    let outcome = done.outcome;
-    let switches = done.switches;
-    match outcome {
-        Outcome::Refused(k) => put_refused(out, at, k),
-        Outcome::Taken => put_text(out, at, b"ok"),
-        Outcome::Spawned(tid) => {
+    match done.outcome {
+        Err(k) => put_refused(out, at, k),
+        Ok(Outcome::Taken) => put_text(out, at, b"ok"),
+        Ok(Outcome::Spawned(tid)) => {
             let a = put_text(out, at, b"spawned");
             put_spaced(out, a, tid.0 as u64)
         }
-        Outcome::Joined(o) => put_joined(out, at, o),
-        Outcome::Switched => put_switches(out, at, switches),
+        Ok(Outcome::Joined(o)) => put_joined(out, at, o),
+        Ok(Outcome::Switched) => put_switches(out, at, done.switches),
     }
 }
 
-fn put_created(out: &mut [u8], at: usize, answer: CallAnswer) -> usize
+fn put_created(out: &mut [u8], at: usize, answer: Result<(), Refusal>) -> usize
     requires { at ≤ length out.old }
     ensures { result ≤ length out.old }
 {
     match answer {
-        CallAnswer::Taken => put_text(out, at, b"ok"),
-        CallAnswer::Refused(k) => put_refused(out, at, k),
+        Ok(()) => put_text(out, at, b"ok"),
+        Err(k) => put_refused(out, at, k),
     }
 }
 
@@ -117,7 +106,7 @@ pub fn print_applied(done: Applied)
 }
 
 // What `new` answered.
-pub fn print_created(answer: CallAnswer) {
+pub fn print_created(answer: Result<(), Refusal>) {
     let mut out = [0u8; 256];
     let a = put_created(&mut out, 0, answer);
     let n = put_text(&mut out, a, b"\n");

@@ -1,4 +1,7 @@
 -- What the parts of `parsed` make of the fields is what the line says.
+use Rattle.std.specs.Prelude.{Some, None}
+use Rattle.model.specs.declared.Tid.{Tid}
+use Rattle.std.specs.Prelude as Std
 use Prim.Native.Nat.{ℕ, zero, suc, ◌≤◌, ◌<◌}
 use mathlib.Core.Path.{◌≡◌, refl, ap, ◌∙◌}
 use mathlib.Core.Bool.{Bool, true, false, cond, ◌&&◌}
@@ -7,12 +10,9 @@ use native.Mathlib.Omega.{arith}
 use borrow.Author.Tests.{eqb-true, eqb-false, ne_eqb}
 use lib.Dec.{eqb}
 use lib.ListN.{length, take, get_or}
-use Rattle.text.specs.declared.Number.{Number}
-use Rattle.text.specs.declared.Number.TheVariants.{Is, Unreadable}
 use Rattle.settings.specs.declared.SchedPolicy.{SchedPolicy}
 use Rattle.settings.specs.declared.SchedPolicy.TheVariants as Policies
 use Rattle.model.specs.declared.CoreId.{CoreId}
-use Rattle.model.specs.declared.OptionTid.{OptionTid}
 use Rattle.sched.specs.declared.Call.TheVariants as Calls
 use Rattle.trace_read.specs.declared.Setup.{Setup}
 use Rattle.trace_read.specs.declared.Line.{Line}
@@ -23,36 +23,19 @@ use Rattle.trace_read.specs.Parts.{is_number, are_numbers, asked_numbers, setup_
 ---- a field of the array, which has nine
 
 -- the program's array has no default, and its values have one of their own
-pub same-field : (f : List Number) (i : ℕ) (d : Number) → i < length f → get_or f i d ≡ field i f
+pub same-field : (f : List (Std.Option ℕ)) (i : ℕ) (d : Std.Option ℕ) → i < length f → get_or f i d ≡ field i f
 same-field [] i d h = absurd (omega arith)
 same-field (x ∷ f) zero d h = refl
 same-field (x ∷ f) (suc i) d h = same-field f i d (omega arith)
 
-pub or-zero : (f : List Number) (i : ℕ) → or_zero (get_or f i (Is 0)) ≡ or_zero (field i f)
-or-zero [] i = refl
-or-zero (x ∷ f) zero = refl
-or-zero (x ∷ f) (suc i) = or-zero f i
+pub or-zero : (f : List (Std.Option ℕ)) (i : ℕ) → or_zero (get_or f i None) ≡ or_zero (field i f)
+or-zero f i = refl
 
-pub setup-same : (f : List Number) (p : SchedPolicy) (q c n t e s x : ℕ) → p ≡ policy_numbered (or_zero (get_or f 1 (Is 0))) → q ≡ or_zero (get_or f 2 (Is 0)) → c ≡ or_zero (get_or f 3 (Is 0))
-    → n ≡ or_zero (get_or f 4 (Is 0)) → t ≡ or_zero (get_or f 5 (Is 0)) → e ≡ or_zero (get_or f 6 (Is 0)) → s ≡ or_zero (get_or f 7 (Is 0)) → x ≡ or_zero (get_or f 8 (Is 0))
+pub setup-same : (f : List (Std.Option ℕ)) (p : SchedPolicy) (q c n t e s x : ℕ) → p ≡ policy_numbered (or_zero (get_or f 1 None)) → q ≡ or_zero (get_or f 2 None) → c ≡ or_zero (get_or f 3 None)
+    → n ≡ or_zero (get_or f 4 None) → t ≡ or_zero (get_or f 5 None) → e ≡ or_zero (get_or f 6 None) → s ≡ or_zero (get_or f 7 None) → x ≡ or_zero (get_or f 8 None)
     → record { config = record { policy = p; quantum = q; switch_cost = c }; cores = n; capacities = record { threads = t; events = e; segments = s }; entry_pc = x } ≡ setup_in f
 setup-same f p q c n t e s x hp hq hc hn ht he hs hx =
     rw (hp ∙ ap policy_numbered (or-zero f 1), hq ∙ or-zero f 2, hc ∙ or-zero f 3, hn ∙ or-zero f 4, ht ∙ or-zero f 5, he ∙ or-zero f 6, hs ∙ or-zero f 7, hx ∙ or-zero f 8)
-
----- the loop over the fields that a code asks for
-
-pub numbers-next : (f : List Number) (i : ℕ) (d : Number) → i < length f → are_numbers (take i f) ≡ true → is_number (get_or f i d) ≡ true → are_numbers (take (suc i) f) ≡ true
-numbers-next [] i d h a x = absurd (omega arith)
-numbers-next (y ∷ f) zero d h a x = rw x
-numbers-next (Is n ∷ f) (suc i) d h a x = numbers-next f i d (omega arith) a x
-numbers-next (Unreadable ∷ f) (suc i) d h a x = a
-
-pub numbers-not : (f : List Number) (i n : ℕ) (d : Number) → i < length f → i < n → is_number (get_or f i d) ≡ false → are_numbers (take n f) ≡ false
-numbers-not f i zero d h k x = absurd (omega arith)
-numbers-not [] i (suc n) d h k x = absurd (omega arith)
-numbers-not (y ∷ f) zero (suc n) d h k x = rw x
-numbers-not (Is m ∷ f) (suc i) (suc n) d h k x = numbers-not f i n d (omega arith) (omega arith) x
-numbers-not (Unreadable ∷ f) (suc i) (suc n) d h k x = refl
 
 ---- what is none of a match's arms
 
@@ -76,16 +59,16 @@ asked-other k h₀ h₁ h₂ h₃ h₄ h₅ h₆ h₇ h₈ h₁₀ = rw (ne_eqb 
 
 ---- the line by its code
 
-module _ (k : ℕ) (f : List Number) where
+module _ (k : ℕ) (f : List (Std.Option ℕ)) where
   pub with-new : (s : Setup) → k ≡ 0 → s ≡ setup_in f → Lines.New s ≡ line_with k f
   unfolding line_with
   with-new s e h = rw (e, h)
 
-  pub with-spawn : (t : OptionTid) (n : ℕ) → k ≡ 1 → t ≡ thread_said (field 1 f) → n ≡ or_zero (field 2 f) → Lines.Call (Calls.Spawn t n) ≡ line_with k f
+  pub with-spawn : (t : Std.Option Tid) (n : ℕ) → k ≡ 1 → t ≡ thread_said (field 1 f) → n ≡ or_zero (field 2 f) → Lines.Call (Calls.Spawn t n) ≡ line_with k f
   unfolding line_with
   with-spawn t n e h g = rw (e, h, g)
 
-  pub with-force : (n : ℕ) (t : OptionTid) → k ≡ 8 → n ≡ or_zero (field 1 f) → t ≡ thread_said (field 2 f) → Lines.Call (Calls.ForceSwitch (record { 0 = n }) t) ≡ line_with k f
+  pub with-force : (n : ℕ) (t : Std.Option Tid) → k ≡ 8 → n ≡ or_zero (field 1 f) → t ≡ thread_said (field 2 f) → Lines.Call (Calls.ForceSwitch (record { 0 = n }) t) ≡ line_with k f
   unfolding line_with
   with-force n t e h g = rw (e, h, g)
 
@@ -117,10 +100,10 @@ module _ (k : ℕ) (f : List Number) where
 ---- what the line says
 
 -- one field that must be a number, and then the others
-need-one : (x : Number) (others : Bool) (v : Line) (g : ℕ → Line) → cond others v Lines.Bad ≡ g (or_zero x) → cond (is_number x && others) v Lines.Bad ≡ needing x g
+need-one : (x : Std.Option ℕ) (others : Bool) (v : Line) (g : ℕ → Line) → cond others v Lines.Bad ≡ g (or_zero x) → cond (is_number x && others) v Lines.Bad ≡ needing x g
 unfolding needing
-need-one (Is n) others v g e = e
-need-one Unreadable others v g e = refl
+need-one (Some n) others v g e = e
+need-one None others v g e = refl
 
 -- each code, and those that there are not
 by_number : (P : ℕ → Type 0) → P 0 → P 1 → P 2 → P 3 → P 4 → P 5 → P 6 → P 7 → P 8 → P 9 → P 10 → P 11 → ((n : ℕ) → P (suc (suc (suc (suc (suc (suc (suc (suc (suc (suc (suc (suc n))))))))))))) → (code : ℕ) → P code
@@ -138,12 +121,12 @@ by_number P p₀ p₁ p₂ p₃ p₄ p₅ p₆ p₇ p₈ p₉ p₁₀ p₁₁ re
 by_number P p₀ p₁ p₂ p₃ p₄ p₅ p₆ p₇ p₈ p₉ p₁₀ p₁₁ rest (suc (suc (suc (suc (suc (suc (suc (suc (suc (suc (suc zero))))))))))) = p₁₁
 by_number P p₀ p₁ p₂ p₃ p₄ p₅ p₆ p₇ p₈ p₉ p₁₀ p₁₁ rest (suc (suc (suc (suc (suc (suc (suc (suc (suc (suc (suc (suc n)))))))))))) = rest n
 
-abbrev said_by : (code : ℕ) → List Number → Line
+abbrev said_by : (code : ℕ) → List (Std.Option ℕ) → Line
 said_by code f = cond (are_numbers (take (asked_numbers code) f)) (line_with code f) Lines.Bad
 
-module _ (a b c d e g h i : Number) where
-  abbrev all : ℕ → List Number
-  all code = Is code ∷ a ∷ b ∷ c ∷ d ∷ e ∷ g ∷ h ∷ i ∷ []
+module _ (a b c d e g h i : Std.Option ℕ) where
+  abbrev all : ℕ → List (Std.Option ℕ)
+  all code = Some code ∷ a ∷ b ∷ c ∷ d ∷ e ∷ g ∷ h ∷ i ∷ []
 
   past : (k : ℕ) → 12 ≤ k → said_by k (all k) ≡ Lines.Bad
   unfolding asked_numbers line_with core_call
@@ -179,7 +162,7 @@ module _ (a b c d e g h i : Number) where
       refl
       (λ n. past (suc (suc (suc (suc (suc (suc (suc (suc (suc (suc (suc (suc n)))))))))))) (omega arith))
 
-said-nine : (f : List Number) → length f ≡ 9 → said_by (or_zero (field 0 f)) f ≡ needing (field 0 f) (line_said f)
+said-nine : (f : List (Std.Option ℕ)) → length f ≡ 9 → said_by (or_zero (field 0 f)) f ≡ needing (field 0 f) (line_said f)
 unfolding needing asked_numbers
 said-nine [] n = absurd (omega arith)
 said-nine (x ∷ []) n = absurd (omega arith)
@@ -190,8 +173,8 @@ said-nine (x ∷ (a ∷ (b ∷ (c ∷ (d ∷ []))))) n = absurd (omega arith)
 said-nine (x ∷ (a ∷ (b ∷ (c ∷ (d ∷ (e ∷ [])))))) n = absurd (omega arith)
 said-nine (x ∷ (a ∷ (b ∷ (c ∷ (d ∷ (e ∷ (g ∷ []))))))) n = absurd (omega arith)
 said-nine (x ∷ (a ∷ (b ∷ (c ∷ (d ∷ (e ∷ (g ∷ (h ∷ [])))))))) n = absurd (omega arith)
-said-nine (Is code ∷ (a ∷ (b ∷ (c ∷ (d ∷ (e ∷ (g ∷ (h ∷ (i ∷ []))))))))) n = by_code a b c d e g h i code
-said-nine (Unreadable ∷ (a ∷ (b ∷ (c ∷ (d ∷ (e ∷ (g ∷ (h ∷ (i ∷ []))))))))) n = refl
+said-nine (Some code ∷ (a ∷ (b ∷ (c ∷ (d ∷ (e ∷ (g ∷ (h ∷ (i ∷ []))))))))) n = by_code a b c d e g h i code
+said-nine (None ∷ (a ∷ (b ∷ (c ∷ (d ∷ (e ∷ (g ∷ (h ∷ (i ∷ []))))))))) n = refl
 said-nine (x ∷ (a ∷ (b ∷ (c ∷ (d ∷ (e ∷ (g ∷ (h ∷ (i ∷ (j ∷ f)))))))))) n = absurd (omega arith)
 
 fields-nine : (n : ℕ) (l : List ℕ) → length (fields_of n l) ≡ n
@@ -204,7 +187,7 @@ line-said : (l : List ℕ) → said_by (or_zero (field 0 (fields_of 9 l))) (fiel
 unfolding line_of
 line-said l = said-nine (fields_of 9 l) (fields-nine 9 l)
 
-module _ (l : List ℕ) (f : List Number) (code n : ℕ) (ok : Bool) (ef : f ≡ fields_of 9 l) (ec : code ≡ or_zero (get_or f 0 (Is 0))) (en : n ≡ asked_numbers code) (eo : ok ≡ are_numbers (take n f)) where
+module _ (l : List ℕ) (f : List (Std.Option ℕ)) (code n : ℕ) (ok : Bool) (ef : f ≡ fields_of 9 l) (ec : code ≡ or_zero (get_or f 0 None)) (en : n ≡ asked_numbers code) (eo : ok ≡ are_numbers (take n f)) where
   parsed-is : cond ok (line_with code f) Lines.Bad ≡ line_of l
   parsed-is = rw (eo, en, ec ∙ or-zero f 0, ef) (line-said l)
 

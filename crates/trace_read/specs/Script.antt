@@ -5,17 +5,15 @@
 --   3 CORE TID                                join       9                 end_tick
 --   4 CORE                                    retired    10 CORE           close
 --   5 CORE                                    yield_now  11                show: the whole state
-use Rattle.std.specs.Prelude.{ℕ, zero, suc, ◌+◌, ◌≤◌, ◌≡◌, Bool, true, not, List, [], ◌∷◌, eqb, length, take, drop, get_or}
+use Rattle.model.specs.declared.Tid.{Tid}
+use Rattle.std.specs.Prelude as Std
+use Rattle.std.specs.Prelude.{ℕ, zero, suc, ◌+◌, ◌≤◌, ◌≡◌, Bool, true, not, List, [], ◌∷◌, eqb, length, take, drop, get_or, Some, None}
 use Rattle.std.proofs.Math.Option.{Option, none, some}
 use Rattle.text.specs.Scan.{index_of}
 use Rattle.text.specs.Bytes.{all, number}
-use Rattle.text.specs.declared.Number.{Number}
-use Rattle.text.specs.declared.Number.TheVariants.{Is, Unreadable}
 use Rattle.settings.specs.declared.SchedPolicy.{SchedPolicy}
 use Rattle.settings.specs.declared.SchedPolicy.TheVariants as PolicyCases
 use Rattle.model.specs.declared.CoreId.{CoreId}
-use Rattle.model.specs.declared.OptionTid.{OptionTid}
-use Rattle.model.specs.declared.OptionTid.TheVariants as OptionTidCases
 use Rattle.sched.specs.declared.Call.{Call}
 use Rattle.sched.specs.declared.Call.TheVariants as Calls
 use Rattle.trace_read.specs.declared.Setup.{Setup}
@@ -24,34 +22,34 @@ use Rattle.trace_read.specs.declared.Line.TheVariants as Lines
 
 ---- a line's fields
 
-abbrev pub number_said : Option ℕ → Number
-number_said none = Unreadable
-number_said (some n) = Is n
+abbrev pub number_said : Option ℕ → Std.Option ℕ
+number_said none = None
+number_said (some n) = Some n
 
--- the first n fields, which spaces divide; what is no number, or is not there, is `Unreadable`
-unfoldable pub fields_of : (n : ℕ) → List ℕ → List Number
+-- the first n fields, which spaces divide; what is no number, or is not there, is `None`
+unfoldable pub fields_of : (n : ℕ) → List ℕ → List (Std.Option ℕ)
 fields_of zero l = []
-fields_of (suc n) [] = Unreadable ∷ fields_of n []
+fields_of (suc n) [] = None ∷ fields_of n []
 fields_of (suc n) (x ∷ l) = number_said (number (take (index_of 32 (x ∷ l)) (x ∷ l))) ∷ fields_of n (drop (index_of 32 (x ∷ l) + 1) (x ∷ l))
 
 -- field i; the code is field 0
-abbrev pub field : ℕ → List Number → Number
-field i f = get_or f i Unreadable
+abbrev pub field : ℕ → List (Std.Option ℕ) → Std.Option ℕ
+field i f = get_or f i None
 
 -- a field that must be a number
-unfoldable pub needing : Number → (ℕ → Line) → Line
-needing Unreadable g = Lines.Bad
-needing (Is n) g = g n
+unfoldable pub needing : Std.Option ℕ → (ℕ → Line) → Line
+needing None g = Lines.Bad
+needing (Some n) g = g n
 
 -- a thread that may be absent
-abbrev pub thread_said : Number → OptionTid
-thread_said Unreadable = OptionTidCases.None
-thread_said (Is t) = OptionTidCases.Some (record { 0 = t })
+abbrev pub thread_said : Std.Option ℕ → Std.Option Tid
+thread_said None = None
+thread_said (Some t) = Some (record { 0 = t })
 
 -- 0 where there is no number
-abbrev pub or_zero : Number → ℕ
-or_zero Unreadable = 0
-or_zero (Is n) = n
+abbrev pub or_zero : Std.Option ℕ → ℕ
+or_zero None = 0
+or_zero (Some n) = n
 
 ---- what it says
 
@@ -71,26 +69,26 @@ setup_of policy quantum cost cores t e s entry =
       entry_pc = entry;
     }
 
-unfoldable pub new_line : List Number → Line
+unfoldable pub new_line : List (Std.Option ℕ) → Line
 new_line f =
     needing (field 1 f) (λ policy. needing (field 2 f) (λ quantum. needing (field 3 f) (λ cost. needing (field 4 f) (λ cores.
     needing (field 5 f) (λ t. needing (field 6 f) (λ e. needing (field 7 f) (λ s. needing (field 8 f) (λ entry.
     Lines.New (setup_of policy quantum cost cores t e s entry)))))))))
 
-unfoldable pub spawn_line : List Number → Line
+unfoldable pub spawn_line : List (Std.Option ℕ) → Line
 spawn_line f = Lines.Call (Calls.Spawn (thread_said (field 1 f)) (or_zero (field 2 f)))
 
-unfoldable pub core_line : (CoreId → Call) → List Number → Line
+unfoldable pub core_line : (CoreId → Call) → List (Std.Option ℕ) → Line
 core_line call f = needing (field 1 f) (λ core. Lines.Call (call (record { 0 = core })))
 
-unfoldable pub pair_line : (ℕ → ℕ → Call) → List Number → Line
+unfoldable pub pair_line : (ℕ → ℕ → Call) → List (Std.Option ℕ) → Line
 pair_line call f = needing (field 1 f) (λ a. needing (field 2 f) (λ b. Lines.Call (call a b)))
 
-unfoldable pub force_line : List Number → Line
+unfoldable pub force_line : List (Std.Option ℕ) → Line
 force_line f = needing (field 1 f) (λ core. Lines.Call (Calls.ForceSwitch (record { 0 = core }) (thread_said (field 2 f))))
 
 -- in the order of the codes
-abbrev pub codes : List (List Number → Line)
+abbrev pub codes : List (List (Std.Option ℕ) → Line)
 codes =
     new_line ∷
     spawn_line ∷
@@ -106,7 +104,7 @@ codes =
     (λ f. Lines.Show) ∷
     []
 
-unfoldable pub line_said : List Number → (code : ℕ) → Line
+unfoldable pub line_said : List (Std.Option ℕ) → (code : ℕ) → Line
 line_said f code = get_or codes code (λ g. Lines.Bad) f
 
 unfoldable pub line_of : List ℕ → Line

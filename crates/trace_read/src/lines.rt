@@ -1,17 +1,17 @@
 // A script's lines read from standard input, and taken apart.
-ghost use Rattle.std.specs.Prelude.{◌≡◌, true, not, ◌≤◌, ◌<◌, eqb, length, take, set};
+ghost use Rattle.std.specs.Prelude.{◌≡◌, true, not, ◌≤◌, eqb, length, take};
 ghost use Rattle.text.specs.Bytes.{all};
 ghost use Rattle.trace_read.specs.Script.{fields_of, or_zero, thread_said, policy_numbered, line_of, count_of, Read};
 ghost use Rattle.trace_read.specs.Parts.{is_number, are_numbers, asked_numbers, setup_in, core_call, pair_call, line_with};
 
 use crate::{Line, Setup};
-use model::{CoreId, OptionTid, Tid};
+use model::{CoreId, Tid};
 use sched::Call;
 use settings::{SchedConfig, SchedPolicy};
 use state::Capacities;
+use text::STDIN_FILENO;
 use text::numbers::read_number;
 use text::scan::find;
-use text::{Number, STDIN_FILENO};
 
 // The next byte, 10 where the input has ended.
 fn read_byte() -> u8 {
@@ -20,94 +20,65 @@ fn read_byte() -> u8 {
     one[0]
 }
 
-fn set_byte(buffer: &mut [u8], i: usize, b: u8)
-    requires { i < length buffer.old }
-    ensures { buffer.new ≡ set buffer.old i b }
-{
-    buffer[i] = b;
-}
-
 const LINE_END: u8 = 10;
 
 // One line without its byte 10, read byte by byte: whoever holds the thread records then needs no input buffer. A line that is too long is cut.
 fn read_bytes(buffer: &mut [u8]) -> usize
     ensures { (result ≤ length buffer.old) × (all (λ b. not (eqb b 10)) (take result buffer.new) ≡ true) }
 {
-    let mut i = 0;
-    while i < buffer.len() {
+    for (i, place) in buffer.iter_mut().enumerate() {
         let b = read_byte();
         if b == LINE_END {
             return i;
         }
-        set_byte(buffer, i, b);
-        i += 1;
+        *place = b;
     }
-    i
+    buffer.len()
 }
 
-// The fields of a line, which spaces divide; what is no number, or is not there, is `Unreadable`.
-pub fn fields(line: &[u8]) -> [Number; 9]
+// The fields of a line, which spaces divide; what is no number, or is not there, is None.
+pub fn fields(line: &[u8]) -> [Option<u32>; 9]
     ensures { result ≡ fields_of 9 line.now }
 {
-    let mut all = [Number::Unreadable; 9];
+    let mut all = [None; 9];
     let n = line.len();
     let mut at = 0;
-    let mut k = 0;
-    while k < 9 {
+    for k in 0..9 {
         if n <= at {
-            return all;
+            break;
         }
-        let end = find(line, at, n, 32);
+        let end = find(line, at, n, b' ').unwrap_or(n);
         all[k] = read_number(&line[at..end]);
         at = end + 1;
-        k += 1;
     }
     all
 }
 
 // 0 where there is none.
-fn number(n: Number) -> u32
+fn number(n: Option<u32>) -> u32
     ensures { result ≡ or_zero n }
 {
-    match n {
-        Number::Is(x) => x,
-        Number::Unreadable => 0,
-    }
+    n.unwrap_or(0)
 }
 
-fn is_number(n: Number) -> bool
+fn is_number(n: Option<u32>) -> bool
     ensures { result ≡ is_number n }
 {
-    match n {
-        Number::Is(_) => true,
-        Number::Unreadable => false,
-    }
+    n.is_some()
 }
 
-fn maybe_tid(n: Number) -> OptionTid
+fn maybe_tid(n: Option<u32>) -> Option<Tid>
     ensures { result ≡ thread_said n }
 {
-    match n {
-        Number::Is(x) => OptionTid::Some(Tid(x)),
-        Number::Unreadable => OptionTid::None,
-    }
+    n.map(Tid)
 }
 
 // Whether the fields 0 to n - 1 are numbers.
-fn are_numbers(f: [Number; 9], n: usize) -> bool
+fn are_numbers(f: [Option<u32>; 9], n: usize) -> bool
     requires { n ≤ 9 }
     ensures { result ≡ are_numbers (take n f) }
 {
-    let all = f;
-    let mut i = 0;
-    while i < n {
-        let x = all[i];
-        if !is_number(x) {
-            return false;
-        }
-        i += 1;
-    }
-    true
+    f[..n].iter().all(|x| is_number(*x))
 }
 
 fn policy_of(n: u32) -> SchedPolicy
@@ -122,7 +93,7 @@ fn policy_of(n: u32) -> SchedPolicy
 }
 
 // 0 POLICY QUANTUM COST CORES T E S ENTRY
-fn setup_of(f: [Number; 9]) -> Setup
+fn setup_of(f: [Option<u32>; 9]) -> Setup
     ensures { result ≡ setup_in f }
 {
     let config = SchedConfig {
@@ -189,7 +160,7 @@ fn asked_numbers(code: u32) -> usize
     }
 }
 
-fn line_of(code: u32, f: [Number; 9]) -> Line
+fn line_of(code: u32, f: [Option<u32>; 9]) -> Line
     ensures { result ≡ line_with code f }
 {
     let a = f[1];

@@ -7,11 +7,10 @@ ghost use Rattle.state.specs.State.{Valid};
 
 use model::{CoreId, Lane, SchedEvent, SchedEventKind, Segment};
 use questions::lists::{event, segment};
-use questions::{OptionEvent, OptionSegment};
 use state::Sched;
 use text::STDOUT_FILENO;
 use trace_state::cores::put_asked;
-use trace_text::out::{least, put_reason, put_spaced, put_text, put_tid};
+use trace_text::out::{put_reason, put_spaced, put_text, put_tid};
 
 fn put_kind(out: &mut [u8], at: usize, kind: SchedEventKind) -> usize
     requires { at ≤ length out.old }
@@ -44,23 +43,20 @@ fn put_event(out: &mut [u8], at: usize, e: SchedEvent) -> usize
     requires { at ≤ length out.old }
     ensures { result ≤ length out.old }
 {
-    let tick = e.tick;
-    let tid = e.tid;
-    let kind = e.kind;
     let a = put_text(out, at, b"event");
-    let b = put_spaced(out, a, tick.0);
-    let c = put_spaced(out, b, tid.0 as u64);
-    let d = put_kind(out, c, kind);
+    let b = put_spaced(out, a, e.tick.0);
+    let c = put_spaced(out, b, e.tid.0 as u64);
+    let d = put_kind(out, c, e.kind);
     put_text(out, d, b"\n")
 }
 
-fn put_found_event(out: &mut [u8], at: usize, found: OptionEvent) -> usize
+fn put_found_event(out: &mut [u8], at: usize, found: Option<SchedEvent>) -> usize
     requires { at ≤ length out.old }
     ensures { result ≤ length out.old }
 {
     match found {
-        OptionEvent::None => at,
-        OptionEvent::Some(e) => put_event(out, at, e),
+        None => at,
+        Some(e) => put_event(out, at, e),
     }
 }
 
@@ -69,12 +65,9 @@ fn put_events(out: &mut [u8], at: usize, s: Sched, log: &[u64]) -> usize
     ensures { result ≤ length out.old }
 {
     let pos = s.log;
-    let n = least(pos.len as usize, 512);
     let mut to = at;
-    let mut k = 0;
-    while k < n {
+    for k in 0..(pos.len as usize).min(512) {
         to = put_found_event(out, to, event(s, log, k));
-        k += 1;
     }
     to
 }
@@ -100,24 +93,21 @@ fn put_segment(out: &mut [u8], at: usize, core: u64, g: Segment) -> usize
     requires { at ≤ length out.old }
     ensures { result ≤ length out.old }
 {
-    let lane = g.lane;
-    let start = g.start;
-    let end = g.end;
     let a = put_text(out, at, b"segment");
     let b = put_spaced(out, a, core);
-    let c = put_lane(out, b, lane);
-    let d = put_spaced(out, c, start.0);
-    let e = put_spaced(out, d, end.0);
+    let c = put_lane(out, b, g.lane);
+    let d = put_spaced(out, c, g.start.0);
+    let e = put_spaced(out, d, g.end.0);
     put_text(out, e, b"\n")
 }
 
-fn put_found_segment(out: &mut [u8], at: usize, core: u64, found: OptionSegment) -> usize
+fn put_found_segment(out: &mut [u8], at: usize, core: u64, found: Option<Segment>) -> usize
     requires { at ≤ length out.old }
     ensures { result ≤ length out.old }
 {
     match found {
-        OptionSegment::None => at,
-        OptionSegment::Some(g) => put_segment(out, at, core, g),
+        None => at,
+        Some(g) => put_segment(out, at, core, g),
     }
 }
 
@@ -127,13 +117,10 @@ fn put_timeline(out: &mut [u8], at: usize, s: Sched, lanes: &[u64], i: usize) ->
     ensures { result ≤ length out.old }
 {
     let pos = s.lanes[i];
-    let n = least(pos.len as usize, 4096);
     let core = CoreId(i as u32);
     let mut to = at;
-    let mut k = 0;
-    while k < n {
+    for k in 0..(pos.len as usize).min(4096) {
         to = put_found_segment(out, to, i as u64, segment(s, lanes, core, k));
-        k += 1;
     }
     to
 }
@@ -142,12 +129,9 @@ fn put_timelines(out: &mut [u8], at: usize, s: Sched, lanes: &[u64]) -> usize
     requires { (at ≤ length out.old) × Askable s (the_lanes lanes.now) }
     ensures { result ≤ length out.old }
 {
-    let n = s.cores;
     let mut to = at;
-    let mut i = 0;
-    while i < n {
+    for i in 0..s.cores {
         to = put_timeline(out, to, s, lanes, i);
-        i += 1;
     }
     to
 }

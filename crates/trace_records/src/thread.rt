@@ -1,7 +1,7 @@
 // One thread's record as a line.
 ghost use Rattle.std.specs.Prelude.{◌≤◌, length};
 
-use model::{OptionLeave, ThreadInfo, ThreadState, ThreadStats};
+use model::{LastLeave, ThreadInfo, ThreadState, ThreadStats};
 use questions::times::{response, turnaround};
 use text::STDOUT_FILENO;
 use trace_text::out::{put_core, put_reason, put_spaced, put_text, put_tick, put_tid};
@@ -24,20 +24,17 @@ fn put_life(out: &mut [u8], at: usize, state: ThreadState) -> usize
     }
 }
 
-fn put_leave(out: &mut [u8], at: usize, left: OptionLeave) -> usize
+fn put_leave(out: &mut [u8], at: usize, left: Option<LastLeave>) -> usize
     requires { at ≤ length out.old }
     ensures { result ≤ length out.old }
 {
     match left {
-        OptionLeave::None => put_text(out, at, b" -"),
-        OptionLeave::Some(l) => {
-            let tick = l.tick;
-            let core = l.core;
-            let reason = l.reason;
-            let a = put_spaced(out, at, tick.0);
-            let b = put_spaced(out, a, core.0 as u64);
+        None => put_text(out, at, b" -"),
+        Some(l) => {
+            let a = put_spaced(out, at, l.tick.0);
+            let b = put_spaced(out, a, l.core.0 as u64);
             let c = put_text(out, b, b" ");
-            put_reason(out, c, reason)
+            put_reason(out, c, l.reason)
         }
     }
 }
@@ -46,21 +43,18 @@ fn put_identity(out: &mut [u8], at: usize, t: ThreadInfo) -> usize
     requires { at ≤ length out.old }
     ensures { result ≤ length out.old }
 {
-    let tid = t.tid;
-    let parent = t.parent;
     let a = put_text(out, at, b"thread");
-    let b = put_spaced(out, a, tid.0 as u64);
-    put_tid(out, b, parent)
+    let b = put_spaced(out, a, t.tid.0 as u64);
+    put_tid(out, b, t.parent)
 }
 
 fn put_standing(out: &mut [u8], at: usize, t: ThreadInfo) -> usize
     requires { at ≤ length out.old }
     ensures { result ≤ length out.old }
 {
-    let state = t.state;
     let a = put_spaced(out, at, t.entry_pc as u64);
     let b = put_spaced(out, a, t.priority as u64);
-    put_life(out, b, state)
+    put_life(out, b, t.state)
 }
 
 // What it did last.
@@ -81,13 +75,10 @@ fn put_times(out: &mut [u8], at: usize, stats: ThreadStats) -> usize
     requires { at ≤ length out.old }
     ensures { result ≤ length out.old }
 {
-    let arrival = stats.arrival;
-    let first_run = stats.first_run;
-    let finish = stats.finish;
     let a = put_text(out, at, b" times");
-    let b = put_spaced(out, a, arrival.0);
-    let c = put_tick(out, b, first_run);
-    put_tick(out, c, finish)
+    let b = put_spaced(out, a, stats.arrival.0);
+    let c = put_tick(out, b, stats.first_run);
+    put_tick(out, c, stats.finish)
 }
 
 fn put_counts(out: &mut [u8], at: usize, stats: ThreadStats) -> usize
@@ -118,12 +109,11 @@ fn put_thread(out: &mut [u8], at: usize, t: ThreadInfo) -> usize
     requires { at ≤ length out.old }
     ensures { result ≤ length out.old }
 {
-    let stats = t.stats;
     let a = put_identity(out, at, t);
     let b = put_standing(out, a, t);
     let c = put_last(out, b, t);
-    let d = put_times(out, c, stats);
-    let e = put_counts(out, d, stats);
+    let d = put_times(out, c, t.stats);
+    let e = put_counts(out, d, t.stats);
     put_asked(out, e, t)
 }
 

@@ -7,11 +7,11 @@ ghost use Rattle.trace_state.specs.Asked.{left_text, running_text, places_text, 
 use model::{CoreId, CoreState, CoreTicks, Tid};
 use questions::cores::{core_of, core_state, core_ticks, running_on, thread_on};
 use questions::lists::ready_queue;
-use questions::{OptionTicks, next_tid};
+use questions::next_tid;
 use settings::SchedConfig;
 use state::Sched;
 use text::STDOUT_FILENO;
-use trace_text::out::{put_bit, put_core, put_policy, put_spaced, put_text, put_tid, wide};
+use trace_text::out::{put_bit, put_core, put_policy, put_spaced, put_text, put_tid};
 
 fn put_clock(out: &mut [u8], at: usize, s: Sched) -> usize
     requires { at ≤ length out.old }
@@ -29,8 +29,7 @@ fn put_config(out: &mut [u8], at: usize, config: SchedConfig) -> usize
     requires { at ≤ length out.old }
     ensures { result ≤ length out.old }
 {
-    let policy = config.policy;
-    let a = put_policy(out, at, policy);
+    let a = put_policy(out, at, config.policy);
     let b = put_spaced(out, a, config.quantum as u64);
     let c = put_spaced(out, b, config.switch_cost as u64);
     put_text(out, c, b"\n")
@@ -41,10 +40,8 @@ fn put_queue(out: &mut [u8], at: usize, queue: &[u32]) -> usize
     ensures { result ≤ length out.old }
 {
     let mut to = put_text(out, at, b"queue");
-    let mut i = 0;
-    while i < queue.len() {
-        to = put_spaced(out, to, wide(queue[i]));
-        i += 1;
+    for tid in queue {
+        to = put_spaced(out, to, *tid as u64);
     }
     put_text(out, to, b"\n")
 }
@@ -89,13 +86,13 @@ fn put_ticks(out: &mut [u8], at: usize, ticks: CoreTicks) -> usize
     put_spaced(out, c, ticks.idle as u64)
 }
 
-fn put_found_ticks(out: &mut [u8], at: usize, found: OptionTicks) -> usize
+fn put_found_ticks(out: &mut [u8], at: usize, found: Option<CoreTicks>) -> usize
     requires { at ≤ length out.old }
     ensures { result ≤ length out.old }
 {
     match found {
-        OptionTicks::None => at,
-        OptionTicks::Some(ticks) => put_ticks(out, at, ticks),
+        None => at,
+        Some(ticks) => put_ticks(out, at, ticks),
     }
 }
 
@@ -118,12 +115,9 @@ fn put_cores(out: &mut [u8], at: usize, s: Sched) -> usize
     requires { (at ≤ length out.old) × Askable s nothing }
     ensures { result ≤ length out.old }
 {
-    let n = s.cores;
     let mut to = at;
-    let mut i = 0;
-    while i < n {
+    for i in 0..s.cores {
         to = put_one_core(out, to, s, i);
-        i += 1;
     }
     to
 }
@@ -133,9 +127,8 @@ pub fn print_front(s: Sched, queue: &[u32])
     requires { Askable s (the_queue queue.now) }
 {
     let mut out = io::buffer();
-    let config = s.config;
     let a = put_clock(&mut out, 0, s);
-    let b = put_config(&mut out, a, config);
+    let b = put_config(&mut out, a, s.config);
     let c = put_queue(&mut out, b, ready_queue(s, queue));
     let n = put_cores(&mut out, c, s);
     io::write_all(STDOUT_FILENO, &out[..n]);
@@ -146,14 +139,11 @@ fn put_running(out: &mut [u8], at: usize, s: Sched) -> usize
     requires { Askable s nothing × (at ≤ length out.old) }
     ensures { Answers s nothing (λ d. Streamed out.old at (running_text d) out.new result) }
 {
-    let n = s.cores + 1;
     let mut to = at;
-    let mut i = 0;
-    while i < n {
+    for i in 0..s.cores + 1 {
         let core = CoreId(i as u32);
         let a = put_tid(out, to, running_on(s, core));
         to = put_tid(out, a, thread_on(s, core));
-        i += 1;
     }
     to
 }
@@ -163,12 +153,9 @@ fn put_places(out: &mut [u8], at: usize, s: Sched) -> usize
     requires { Askable s nothing × (at ≤ length out.old) }
     ensures { Answers s nothing (λ d. Streamed out.old at (places_text d) out.new result) }
 {
-    let n = s.threads + 1;
     let mut to = at;
-    let mut i = 0;
-    while i < n {
+    for i in 0..s.threads + 1 {
         to = put_core(out, to, core_of(s, Tid(i as u32)));
-        i += 1;
     }
     to
 }

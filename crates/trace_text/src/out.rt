@@ -1,13 +1,14 @@
 // Texts, numbers and names put into a lent buffer, which goes to standard output whenever the next text does not fit.
-ghost use Rattle.std.specs.Prelude.{◌≡◌, ◌≤◌, min, length};
+ghost use Rattle.std.specs.Prelude.{◌≤◌, length};
 ghost use Rattle.text.specs.Bytes.{decimal};
+ghost use Rattle.text.specs.Reading.{number_meant};
 ghost use Rattle.settings.specs.Reading.{policy_meant};
 ghost use Rattle.model.specs.Reading.{option_tid_meant, option_core_meant, option_tick_meant, reason_meant};
 ghost use Rattle.script.specs.Report.{reason_word};
 ghost use Rattle.trace_text.specs.Texts.{spaced, spaced_maybe, spaced_policy, bit_text};
 ghost use Rattle.trace_text.specs.Streams.{Streamed, Placed};
 
-use model::{LeaveReason, OptionCore, OptionTick, OptionTid};
+use model::{CoreId, LeaveReason, Tick, Tid};
 use settings::SchedPolicy;
 use text::STDOUT_FILENO;
 use text::put::put;
@@ -63,35 +64,37 @@ pub fn put_bit(out: &mut [u8], at: usize, b: bool) -> usize
     put_text(out, at, b"0")
 }
 
-// A space and a number, or a dash for none: a thread, a core, a tick.
-pub fn put_tid(out: &mut [u8], at: usize, tid: OptionTid) -> usize
+// A space and a number, or a dash for none.
+pub fn put_maybe(out: &mut [u8], at: usize, n: Option<u64>) -> usize
+    requires { at ≤ length out.old }
+    ensures { Streamed out.old at (spaced_maybe (number_meant n)) out.new result }
+{
+    match n {
+        None => put_text(out, at, b" -"),
+        Some(n) => put_spaced(out, at, n),
+    }
+}
+
+// The same of a thread, a core, a tick.
+pub fn put_tid(out: &mut [u8], at: usize, tid: Option<Tid>) -> usize
     requires { at ≤ length out.old }
     ensures { Streamed out.old at (spaced_maybe (option_tid_meant tid)) out.new result }
 {
-    match tid {
-        OptionTid::None => put_text(out, at, b" -"),
-        OptionTid::Some(t) => put_spaced(out, at, t.0 as u64),
-    }
+    put_maybe(out, at, tid.map(|t| t.0 as u64))
 }
 
-pub fn put_core(out: &mut [u8], at: usize, core: OptionCore) -> usize
+pub fn put_core(out: &mut [u8], at: usize, core: Option<CoreId>) -> usize
     requires { at ≤ length out.old }
     ensures { Streamed out.old at (spaced_maybe (option_core_meant core)) out.new result }
 {
-    match core {
-        OptionCore::None => put_text(out, at, b" -"),
-        OptionCore::Some(c) => put_spaced(out, at, c.0 as u64),
-    }
+    put_maybe(out, at, core.map(|c| c.0 as u64))
 }
 
-pub fn put_tick(out: &mut [u8], at: usize, tick: OptionTick) -> usize
+pub fn put_tick(out: &mut [u8], at: usize, tick: Option<Tick>) -> usize
     requires { at ≤ length out.old }
     ensures { Streamed out.old at (spaced_maybe (option_tick_meant tick)) out.new result }
 {
-    match tick {
-        OptionTick::None => put_text(out, at, b" -"),
-        OptionTick::Some(t) => put_spaced(out, at, t.0),
-    }
+    put_maybe(out, at, tick.map(|t| t.0))
 }
 
 // The words of the Rust's labels.
@@ -119,17 +122,4 @@ pub fn put_policy(out: &mut [u8], at: usize, policy: SchedPolicy) -> usize
         SchedPolicy::RoundRobin => put_text(out, at, b" rr"),
         SchedPolicy::Priority => put_text(out, at, b" priority"),
     }
-}
-
-// The smaller number: a bound for a loop's count that is known to be small.
-pub fn least(a: usize, b: usize) -> usize
-    ensures { result ≡ min a b }
-{
-    if a < b { a } else { b }
-}
-
-pub fn wide(n: u32) -> u64
-    ensures { result ≡ n }
-{
-    n as u64
 }

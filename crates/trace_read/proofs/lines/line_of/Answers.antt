@@ -1,6 +1,7 @@
+use Rattle.std.specs.Prelude.{None}
+use Rattle.std.specs.Prelude.{Some}
 use native.Mathlib.Omega.{arith}
 use mathlib.Core.Path.{ap, ◌∙◌}
-use Rattle.text.specs.declared.Number.TheVariants.{Is}
 use Rattle.trace_read.specs.Script.{thread_said}
 use Rattle.trace_read.proofs.Saying.{same-field, or-zero, with-new, with-spawn, with-force, with-tick, with-show, with-three, with_pair, with-core}
 use Rattle.trace_read.proofs.lines.line_of.Goals as goal
@@ -12,11 +13,11 @@ returns-in-0 c =
 
 pub returns-in-1 : goal.returns-in-1
 returns-in-1 c =
-    with-spawn c.args.code c.args.f _ _ c.in-1.is (c.maybe_tid.ensures ∙ ap thread_said (same-field c.args.f 1 (Is 0) (omega arith))) (c.number-second.ensures ∙ or-zero c.args.f 2)
+    with-spawn c.args.code c.args.f _ _ c.in-1.is (c.maybe_tid.ensures ∙ ap thread_said (same-field c.args.f 1 None (omega arith))) (c.number-second.ensures ∙ or-zero c.args.f 2)
 
 pub returns-in-8 : goal.returns-in-8
 returns-in-8 c =
-    with-force c.args.code c.args.f _ _ c.in-8.is (c.number-first.ensures ∙ or-zero c.args.f 1) (c.maybe_tid-in-8.ensures ∙ ap thread_said (same-field c.args.f 2 (Is 0) (omega arith)))
+    with-force c.args.code c.args.f _ _ c.in-8.is (c.number-first.ensures ∙ or-zero c.args.f 1) (c.maybe_tid-in-8.ensures ∙ ap thread_said (same-field c.args.f 2 None (omega arith)))
 
 pub returns-in-9 : goal.returns-in-9
 returns-in-9 c =

@@ -1,6 +1,7 @@
+use Rattle.std.specs.Prelude.{Some, None}
 use Rattle.script.specs.Report.{maybe}
 use Rattle.trace_text.specs.Texts.{spaced, spaced_maybe}
-use Rattle.trace_text.proofs.out.put_core.Goals as goal
+use Rattle.trace_text.proofs.out.put_maybe.Goals as goal
 
 pub returns-in-None : goal.returns-in-None
 unfolding maybe spaced spaced_maybe
