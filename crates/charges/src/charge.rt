@@ -112,17 +112,16 @@ fn blocked_due(state: ThreadState) -> u64
     u64::from(matches!(&state, ThreadState::Blocked(_)))
 }
 
-// Thread i's record after a tick in which the cores were as `on` says. Few threads hold a core, so that is asked once, and what the core does only then.
-pub fn charged(mut t: ThreadInfo, i: usize, on: CoreThreads) -> ThreadInfo
-    requires { Chargeable i (thread_meant t) }
-    ensures { (cores : List CoreStates.CoreState) → on ≡ core_threads_of cores → thread_meant result ≡ charge_thread (cores_meant cores) i (thread_meant t) }
+// Thread i's record, in place, after a tick in which the cores were as `on` says. Few threads hold a core, so that is asked once, and what the core does only then.
+pub fn charge(t: &mut ThreadInfo, i: usize, on: CoreThreads)
+    requires { Chargeable i (thread_meant t.old) }
+    ensures { (cores : List CoreStates.CoreState) → on ≡ core_threads_of cores → thread_meant t.new ≡ charge_thread (cores_meant cores) i (thread_meant t.old) }
 {
     let tid = i as u32;
     if on.holds(tid) {
         t.stats.run_ticks += u64::from(on.runs(tid));
-        return t;
+        return;
     }
     t.stats.ready_ticks += ready_due(t.state);
     t.stats.blocked_ticks += blocked_due(t.state);
-    t
 }

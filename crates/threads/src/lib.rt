@@ -13,7 +13,7 @@ ghost use Rattle.record_reads.specs.Totals.{totals_of, TotalsFit};
 ghost use Rattle.records.specs.Changes.{change_meant, Fits};
 ghost use Rattle.threads.specs.Slice.{blank, threads_in, Front, AllChargeable, tid_at, MovesFit, WakeFit, Woken};
 
-use charges::charge::{CoreThreads, charged};
+use charges::charge::{CoreThreads, charge};
 use model::{CoreState, ThreadInfo, Tick, Tid};
 use record_moves::moves;
 use record_reads::read;
@@ -43,7 +43,7 @@ pub fn charge_all(threads: &mut [ThreadInfo], n: usize, cores: [CoreState; 8])
 {
     let on = CoreThreads::new(cores);
     for (i, t) in threads[..n].iter_mut().enumerate() {
-        *t = charged(*t, i, on);
+        charge(t, i, on);
     }
 }
 
