@@ -1,6 +1,6 @@
 -- Which part of the definition a value of the program's types stands for.
 use Rattle.std.specs.Prelude.{ℕ, ◌≡◌, List, Result, Ok, Err, Some, None}
-use Rattle.std.specs.Prelude.{Option as Optional}
+use Rattle.std.specs.Prelude as Std
 use Rattle.std.proofs.Math.Option.{Option, none, some}
 use Rattle.text.specs.Lines.{Read, bad, good, fields, needed, one}
 use Rattle.settings.specs.declared.Refusal.{Refusal}
@@ -14,7 +14,7 @@ use Rattle.commands.specs.declared.Command.TheVariants as CommandCases
 use Rattle.commands.specs.declared.CallKey as CallKeys
 use Rattle.commands.specs.declared.CallKey.TheVariants as CallKeyCases
 
-abbrev pub call_key_meant : Optional CallKeys.CallKey → Option CallKey
+abbrev pub call_key_meant : Std.Option CallKeys.CallKey → Option CallKey
 call_key_meant (Some CallKeyCases.Spawn) = some SpawnKey
 call_key_meant (Some CallKeyCases.Exit) = some ExitKey
 call_key_meant (Some CallKeyCases.Join) = some JoinKey

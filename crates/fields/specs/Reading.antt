@@ -1,6 +1,6 @@
 -- Which part of the definition the fields of a value stand for.
 use Rattle.std.specs.Prelude.{ℕ, List, Result, Ok, Err}
-use Rattle.std.specs.Prelude.{Option as Optional}
+use Rattle.std.specs.Prelude as Std
 use Rattle.std.proofs.Math.Option.{Option}
 use denote.Ref.{Bor}
 use Rattle.text.specs.Lines.{Read, bad, good}
@@ -23,7 +23,7 @@ abbrev pub number_read_meant : Result ℕ Refusal → Read ℕ
 number_read_meant (Ok n) = good n
 number_read_meant (Err k) = bad (refusal_number k)
 
-abbrev pub maybe_read_meant : Result (Optional Tid) Refusal → Read (Option ℕ)
+abbrev pub maybe_read_meant : Result (Std.Option Tid) Refusal → Read (Option ℕ)
 maybe_read_meant (Ok t) = good (option_tid_meant t)
 maybe_read_meant (Err k) = bad (refusal_number k)
 
@@ -31,6 +31,6 @@ abbrev pub numbers_read_meant : Result (ℕ × ℕ) Refusal → Read (ℕ × ℕ
 numbers_read_meant (Ok p) = good p
 numbers_read_meant (Err k) = bad (refusal_number k)
 
-abbrev pub number_maybe_read_meant : Result (ℕ × Optional Tid) Refusal → Read (ℕ × Option ℕ)
+abbrev pub number_maybe_read_meant : Result (ℕ × Std.Option Tid) Refusal → Read (ℕ × Option ℕ)
 number_maybe_read_meant (Ok p) = good (p.0, option_tid_meant p.1)
 number_maybe_read_meant (Err k) = bad (refusal_number k)

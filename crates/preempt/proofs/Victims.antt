@@ -17,7 +17,8 @@ use Rattle.model.specs.declared.Tid.{Tid}
 use Rattle.model.specs.declared.CoreState.TheVariants
 use Rattle.model.proofs.LoopLaws.{sofar, least_urgent-snoc}
 use Rattle.queue.specs.Ready.{Picked}
-use Rattle.std.specs.Prelude.{Option as Answer, Some, None, IfSome}
+use Rattle.std.specs.Prelude as Std
+use Rattle.std.specs.Prelude.{Some, None, IfSome}
 use borrow.Author.Rules.{rules}
 use Rattle.preempt.specs.declared.Victim as Found
 use Rattle.queue.proofs.Scan.{behind, there}
@@ -34,7 +35,7 @@ module _ (pr : ℕ → ℕ) (cs : List Program.CoreState) (ex bl yi ps : List Bo
   abbrev state : ℕ → CoreState
   state i = core_state_meant (get_or cs i TheVariants.Idle)
 
-  pub data Seek (i : ℕ) (v : Answer Found.Victim) (high : ℕ) : Type 0 where
+  pub data Seek (i : ℕ) (v : Std.Option Found.Victim) (high : ℕ) : Type 0 where
     none_yet_lem : found i ≡ none → high ≡ 0 → v ≡ None → Seek i v high
     has : (x : Found.Victim) → v ≡ Some x → found i ≡ victim_meant (Some x) → x.core.0 < i → high ≡ pr x.tid.0 → Seek i v high
 
@@ -46,12 +47,12 @@ module _ (pr : ℕ → ℕ) (cs : List Program.CoreState) (ex bl yi ps : List Bo
   unfolding least_urgent firsts
   seek-start = none_yet_lem refl refl refl
 
-  pub seek-pass : (i : ℕ) (v : Answer Found.Victim) (high : ℕ) → ((w : Option Victim) → sofar pr w i (state i) ≡ w) → Seek i v high → Seek (i + 1) v high
+  pub seek-pass : (i : ℕ) (v : Std.Option Found.Victim) (high : ℕ) → ((w : Option Victim) → sofar pr w i (state i) ≡ w) → Seek i v high → Seek (i + 1) v high
   seek-pass i v high e (none_yet_lem f g h) = none_yet_lem (further i ∙ e (found i) ∙ f) g h
   seek-pass i v high e (has x o f l g) = has x o (further i ∙ e (found i) ∙ f) (omega arith) g
 
   -- a core that runs nothing
-  pub seek-other : (i : ℕ) (v : Answer Found.Victim) (high : ℕ) → ((t : Tid) (s : ℕ) → get_or cs i TheVariants.Idle ≡ TheVariants.Running t s → ⊥) → Seek i v high → Seek (i + 1) v high
+  pub seek-other : (i : ℕ) (v : Std.Option Found.Victim) (high : ℕ) → ((t : Tid) (s : ℕ) → get_or cs i TheVariants.Idle ≡ TheVariants.Running t s → ⊥) → Seek i v high → Seek (i + 1) v high
   seek-other i v high n = seek-pass i v high (same (get_or cs i TheVariants.Idle) n)
     where
       same : (s : Program.CoreState) → ((t : Tid) (l : ℕ) → s ≡ TheVariants.Running t l → ⊥) → (w : Option Victim) → sofar pr w i (core_state_meant s) ≡ w
@@ -59,15 +60,15 @@ module _ (pr : ℕ → ℕ) (cs : List Program.CoreState) (ex bl yi ps : List Bo
       same (TheVariants.Switching t l) n w = refl
       same (TheVariants.Running t l) n w = absurd (n t l refl)
 
-  pub seek-take : (i : ℕ) (v : Answer Found.Victim) (high : ℕ) (t : Tid) (s p : ℕ) → state i ≡ Running t.0 s → p ≡ pr t.0 → high ≤ p → Seek i v high → Seek (i + 1) (Some (record { core = record { 0 = i }; tid = t })) p
+  pub seek-take : (i : ℕ) (v : Std.Option Found.Victim) (high : ℕ) (t : Tid) (s p : ℕ) → state i ≡ Running t.0 s → p ≡ pr t.0 → high ≤ p → Seek i v high → Seek (i + 1) (Some (record { core = record { 0 = i }; tid = t })) p
   seek-take i v high t s p e ep l (none_yet_lem f g h) = has _ refl (further i ∙ rw (f, e)) (omega arith) ep
   seek-take i v high t s p e ep l (has x o f k g) = has _ refl (further i ∙ rw (f, e, le-ltb (pr t.0) (pr x.tid.0) (omega arith))) (omega arith) ep
 
-  pub seek-keep : (i : ℕ) (v : Answer Found.Victim) (high : ℕ) (t : Tid) (s p : ℕ) → state i ≡ Running t.0 s → p ≡ pr t.0 → p < high → Seek i v high → Seek (i + 1) v high
+  pub seek-keep : (i : ℕ) (v : Std.Option Found.Victim) (high : ℕ) (t : Tid) (s p : ℕ) → state i ≡ Running t.0 s → p ≡ pr t.0 → p < high → Seek i v high → Seek (i + 1) v high
   seek-keep i v high t s p e ep l (none_yet_lem f g h) = absurd (omega arith)
   seek-keep i v high t s p e ep l (has x o f k g) = has x o (further i ∙ rw (f, e, lt-ltb (pr t.0) (pr x.tid.0) (omega arith))) (omega arith) g
 
-  pub seek-end : (i n : ℕ) (v : Answer Found.Victim) (high : ℕ) → i ≤ n → n ≤ i → Seek i v high → found n ≡ victim_meant v
+  pub seek-end : (i n : ℕ) (v : Std.Option Found.Victim) (high : ℕ) → i ≤ n → n ≤ i → Seek i v high → found n ≡ victim_meant v
   seek-end i n v high l k s =
       let e : i ≡ n = omega arith in
       go (rw e at s)
@@ -76,7 +77,7 @@ module _ (pr : ℕ → ℕ) (cs : List Program.CoreState) (ex bl yi ps : List Bo
       go (none_yet_lem f g h) = rw h f
       go (has x o f l g) = rw o f
 
-  pub seek-within : (i n : ℕ) (v : Answer Found.Victim) (high : ℕ) → i ≤ n → Seek i v high → IfSome v (λ x. x.core.0 < n)
+  pub seek-within : (i n : ℕ) (v : Std.Option Found.Victim) (high : ℕ) → i ≤ n → Seek i v high → IfSome v (λ x. x.core.0 < n)
   seek-within i n v high l (none_yet_lem f g h) = rw h (search rules)
   seek-within i n v high l (has x o f k g) = rw o (omega arith)
 

@@ -14,7 +14,8 @@ use lib.Seq.{drop-cons}
 use borrow.Author.Tests.{eq-eqb, ne_eqb, lt-ltb, le-ltb, le-leb, lt-leb}
 use Rattle.model.specs.Phases.{without, more_urgent, most_urgent, eligible}
 use Rattle.queue.specs.Ready.{remove_at, Picked, Chosen, front}
-use Rattle.std.specs.Prelude.{Option as Answer, Some, None}
+use Rattle.std.specs.Prelude as Std
+use Rattle.std.specs.Prelude.{Some, None}
 use borrow.Author.Rules.{rules}
 
 -- a place behind the last
@@ -146,5 +147,5 @@ module _ (pr : ℕ → ℕ) (m : ℕ) (q : List ℕ) where
         within = search rules;
       }
 
-  pub down_any : ((t : ℕ) → pr t ≤ m) → (at : Answer ℕ) → Chosen (best pr m q) q at → Chosen (most_urgent pr q) q at
+  pub down_any : ((t : ℕ) → pr t ≤ m) → (at : Std.Option ℕ) → Chosen (best pr m q) q at → Chosen (most_urgent pr q) q at
   down_any all at p = rw (eligible-all pr m all q) at p

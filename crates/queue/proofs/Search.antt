@@ -11,7 +11,8 @@ use lib.Dec.{eqb, ltb}
 use lib.ListN.{length, get_or, get_elem?}
 use borrow.Author.Tests.{eqb-true, ltb-true, ltb-false}
 use Rattle.std.proofs.lemmas.List.Sums.{passes_at_first}
-use Rattle.std.specs.Prelude.{Option as Answer, Some, None}
+use Rattle.std.specs.Prelude as Std
+use Rattle.std.specs.Prelude.{Some, None}
 use borrow.Author.Rules.{rules}
 use Rattle.std.specs.List.{position, position_or_len}
 use Rattle.model.specs.Phases.{without}
@@ -43,7 +44,7 @@ module _ (t : ℕ) where
           let l' = rw (e, one-add) at l in
           rw (e, one-add) (ap (λ (r : List ℕ). x ∷ r) (h (omega (arith, l'))))
 
-  pub place_chosen : (d : List ℕ) (o : Answer ℕ) → o ≡ position (λ x. eqb x t) d → Chosen (named t d) d o
+  pub place_chosen : (d : List ℕ) (o : Std.Option ℕ) → o ≡ position (λ x. eqb x t) d → Chosen (named t d) d o
   place_chosen d o p = go (ltb (place d) (length d)) refl
     where
       go : (b : Bool) → ltb (place d) (length d) ≡ b → Chosen (named t d) d o

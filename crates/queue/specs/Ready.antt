@@ -1,6 +1,6 @@
 -- The ready queue is the front of a lent slice, `take len queue`; a thread in it is named by its place.
 use Rattle.std.specs.Prelude.{ℕ, zero, suc, ◌<◌, ◌≡◌, cond, List, [], ◌∷◌, ◌++◌, length, get_or, take, unwrap_or, IfSome}
-use Rattle.std.specs.Prelude.{Option as Answer}
+use Rattle.std.specs.Prelude as Std
 use Rattle.std.proofs.Math.Option.{Option, none, some}
 use Rattle.std.proofs.Math.ListN.{get_elem?}
 use mathlib.Core.List.{head?}
@@ -28,7 +28,7 @@ pub record Picked (who : Option ℕ) (q : List ℕ) (at : ℕ) : Type 0 where
   pub first : at < length q → (s : List ℕ) → without (get_or q at 0) (q ++ s) ≡ remove_at at q ++ s
 
 -- the same as the program answers it: None where nobody is to be taken
-pub record Chosen (who : Option ℕ) (q : List ℕ) (at : Answer ℕ) : Type 0 where
+pub record Chosen (who : Option ℕ) (q : List ℕ) (at : Std.Option ℕ) : Type 0 where
   pub picked : Picked who q (unwrap_or at (length q))
   pub within : IfSome at (λ k. k < length q)
 

@@ -1,6 +1,6 @@
 -- Which part of the definition a value of the program's types stands for.
 use Rattle.std.specs.Prelude.{ℕ, List, Result, Ok, Err, Some, None}
-use Rattle.std.specs.Prelude.{Option as Optional}
+use Rattle.std.specs.Prelude as Std
 use Rattle.std.proofs.Math.Option.{Option, none, some}
 use Rattle.rcfg.specs.declared.HeadKey as HeadKeys
 use Rattle.rcfg.specs.declared.HeadKey.TheVariants as HeadKeyCases
@@ -17,7 +17,7 @@ abbrev pub ranged_meant : Result ℕ Refusal → Read ℕ
 ranged_meant (Ok n) = good n
 ranged_meant (Err k) = bad (refusal_number k)
 
-abbrev pub key_meant : Optional HeadKeys.HeadKey → Option HeadKey
+abbrev pub key_meant : Std.Option HeadKeys.HeadKey → Option HeadKey
 key_meant (Some HeadKeyCases.Policy) = some PolicyKey
 key_meant (Some HeadKeyCases.Quantum) = some QuantumKey
 key_meant (Some HeadKeyCases.SwitchCost) = some CostKey

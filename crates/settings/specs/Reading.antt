@@ -1,6 +1,6 @@
 -- Which part of the definition a value of the program's types stands for.
 use Rattle.std.specs.Prelude.{ℕ, Some, None}
-use Rattle.std.specs.Prelude.{Option as Optional}
+use Rattle.std.specs.Prelude as Std
 use Rattle.std.proofs.Math.Option.{Option, none, some}
 use Rattle.settings.specs.declared.SchedPolicy as Policies
 use Rattle.settings.specs.declared.SchedPolicy.TheVariants as PolicyCases
@@ -39,6 +39,6 @@ refusal_number RefusalCases.ThreadsFull = 17
 refusal_number RefusalCases.ClockLimit = 18
 refusal_number RefusalCases.CounterLimit = 19
 
-abbrev pub policy_found_meant : Optional Policies.SchedPolicy → Option Policy
+abbrev pub policy_found_meant : Std.Option Policies.SchedPolicy → Option Policy
 policy_found_meant (Some p) = some (policy_meant p)
 policy_found_meant None = none
