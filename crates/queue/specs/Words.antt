@@ -1,6 +1,6 @@
 -- Moves as words in the front of a lent slice, and what a function that writes there leaves as it was.
 use Rattle.std.specs.Prelude.{ℕ, zero, suc, ◌+◌, ◌/◌, ◌%◌, ◌≤◌, ◌<◌, ◌≡◌, List, map, length, take, drop}
-use Rattle.std.specs.Borrow.{MutBor}
+pub use Rattle.text.specs.Buffers.{StillLent}
 use Rattle.model.specs.Types.{Exit, Block, Yield, Quantum, Preempt, Forced, Move, starts, leaves, takes}
 use Rattle.model.specs.Reading.{reason_meant}
 use Rattle.queue.specs.declared.moves.Move as Program
@@ -43,11 +43,6 @@ move_meant (MoveCases.Takes t c) = takes t.0 c.0
 move_meant (MoveCases.Starts t) = starts t.0
 
 ---- what lies behind a count in lent memory
-
--- still the same lent words, and as many
-pub record StillLent (old new : MutBor (List ℕ)) : Type 0 where
-  pub same : new.ghost_name ≡ old.ghost_name
-  pub long : length new.now ≡ length old.now
 
 abbrev pub Behind : ℕ → (old new : List ℕ) → Type 0
 Behind k old new = drop k new ≡ drop k old

@@ -1,7 +1,13 @@
 -- Texts put into lent buffers.
 use Rattle.std.specs.Prelude.{ℕ, ◌+◌, ◌≡◌, cond, List, ◌++◌, leb, length, drop}
+use Rattle.std.specs.Borrow.{MutBor}
 use Rattle.std.proofs.Math.Option.{Option, none, some}
 use Rattle.std.proofs.Math.Seq.{paste}
+
+-- a slice that a struct keeps is still the same loan, and as long: what is left of it is the lender's
+pub record StillLent {A : Type 0} (old new : MutBor (List A)) : Type 0 where
+  pub same : new.ghost_name ≡ old.ghost_name
+  pub long : length new.now ≡ length old.now
 
 -- the text t put at `at` into the buffer b gives b' and ends at r: `paste b at t n` is b with the first n of t from `at` on
 pub record Put (b : List ℕ) (at : ℕ) (t b' : List ℕ) (r : ℕ) : Type 0 where
