@@ -1,4 +1,4 @@
--- Texts one behind the other.
-pub mod Chains
+-- What the report's texts are made of, and how long they are.
+pub mod Means
 pub mod Rooms
 pub mod Listing

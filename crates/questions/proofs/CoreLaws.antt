@@ -22,7 +22,7 @@ use Rattle.model.proofs.LoopLaws.{core_at-get_d}
 use Rattle.state.specs.declared.Sched.{Sched}
 use Rattle.state.specs.Memory.{Memory}
 use Rattle.state.specs.Asked.{Askable, the_log, the_lanes}
-use Rattle.state.specs.State.{firsts, core_from, states_of, no_ticks, no_pos, lane_start, lane_words, log_words, meant_at, meant, Valid}
+use Rattle.state.specs.State.{firsts, core_from, board_of, states_of, no_ticks, no_pos, lane_start, lane_words, log_words, meant_at, meant, Valid}
 use Rattle.rings.specs.Ring.{RingOK}
 use Rattle.rings.specs.Timeline.{segments_in}
 use Rattle.rings.proofs.EventLaws.{events-count}
@@ -80,11 +80,11 @@ state-by-place d k i =
 module _ (s : Sched) (m : Memory) (v : Valid s m) where
   pub core-state-is : (i : ℕ) → core_state_meant (get_or (states_of s.states) i CoreStateCases.Idle) ≡ core_state_of (meant s m) i
   unfolding core_state_of meant_at core_from
-  core-state-is i = sym (ap (λ (c : Core). c.state) (core-there (core_from (states_of s.states) s.exits s.blocks s.yields s.progressed) s.cores i (v.marks.unused i)))
+  core-state-is i = sym (ap (λ (c : Core). c.state) (core-there (board_of s) s.cores i (v.marks.unused i)))
 
   pub count-is : s.cores ≡ length (meant s m).cores
   unfolding meant_at
-  count-is = sym (length-firsts (core_from (states_of s.states) s.exits s.blocks s.yields s.progressed) s.cores)
+  count-is = sym (length-firsts (board_of s) s.cores)
 
   pub states-are : map core_state_meant (states_of s.states) ≡ core_states (meant s m) ++ replicate (8 - length (meant s m).cores) Idle
   states-are =
@@ -145,9 +145,9 @@ module _ (t : ℕ) (g : ℕ → Core) (n : ℕ) where
         go false l = rw (next-core i (leb-false n i l), e)
 
 -- the whole search, over the arrays
-pub core-found : (s : Sched) (m : Memory) (a : List Program.CoreState) (t : ℕ) → a ≡ states_of s.states → core_of (meant s m) t ≡ from t (core_from a s.exits s.blocks s.yields s.progressed) s.cores 0
+pub core-found : (s : Sched) (m : Memory) (a : List Program.CoreState) (t : ℕ) → a ≡ states_of s.states → core_of (meant s m) t ≡ from t (core_from a s.marks.exits s.marks.blocks s.marks.yields s.marks.progressed) s.cores 0
 unfolding core_of meant_at
-core-found s m a t e = ap (λ (l : List Program.CoreState). find_from 0 t (firsts (core_from l s.exits s.blocks s.yields s.progressed) s.cores)) (sym e)
+core-found s m a t e = ap (λ (l : List Program.CoreState). find_from 0 t (firsts (core_from l s.marks.exits s.marks.blocks s.marks.yields s.marks.progressed) s.cores)) (sym e)
 
 ---- the log
 

@@ -10,14 +10,7 @@ use model::{LeaveReason, ThreadState};
 pub fn reason_label(reason: LeaveReason) -> &'static str
     ensures { result.now ≡ reason_word (reason_meant reason) }
 {
-    match reason {
-        LeaveReason::Exit => "exit",
-        LeaveReason::Block => "join",
-        LeaveReason::Yield => "yield",
-        LeaveReason::Quantum => "quantum",
-        LeaveReason::Preempt => "preempt",
-        LeaveReason::Forced => "forced",
-    }
+    script::labels::reason_label(reason)
 }
 
 // The Rust's `ThreadState::label`.

@@ -7,7 +7,7 @@ use mathlib.Core.Option.{some}
 use mathlib.Core.List.{List, [], ◌∷◌, ◌++◌, append-nil}
 use native.Mathlib.Omega.{arith}
 use borrow.Author.Tests.{le-leb, le-ltb}
-use lib.ListN.{length}
+use lib.ListN.{length, length-append}
 use Rattle.settings.specs.Policy.{Policy, Off, Fifo, RoundRobin, Priority}
 use Rattle.settings.specs.Policy.{beyond}
 use Rattle.text.specs.Bytes.{ascii, all, decimal, lookup}
@@ -51,6 +51,11 @@ policy_short Off = omega arith
 policy_short Fifo = omega arith
 policy_short RoundRobin = omega arith
 policy_short Priority = omega arith
+
+-- whatever the numbers of 32 bits: a buffer of 69 bytes is never short
+pub rcfg_length : (s : Settings) → s.quantum ≤ 4_294_967_295 → s.cost ≤ 4_294_967_295 → length (to_rcfg s) ≤ 69
+unfolding to_rcfg written commas
+rcfg_length s h k = simp length-append (omega (arith, policy_short s.policy, decimal-length 9 s.quantum (omega arith), decimal-length 9 s.cost (omega arith)))
 
 -- a line read, the rest follows
 pub settle_step : (n : ℕ) (h h' : Head) (l : List ℕ) (ls : List (List ℕ)) → setting_piece h (line_of l) ≡ good h' → settle n h (l ∷ ls) ≡ settle (suc n) h' ls

@@ -9,12 +9,11 @@ use native.Mathlib.Nat.{div-le_self, le_trans}
 use native.Mathlib.Omega.{arith}
 use lib.ListN.{length, length-append}
 use Rattle.script.specs.Invariants.{Modest}
-use Rattle.model.specs.Types.{LeaveReason, Exit, Block, Yield, Quantum, Preempt, Forced, Policy, Off, Fifo, RoundRobin, Priority, Out, SwitchEntry}
+use Rattle.model.specs.Types.{LeaveReason, Exit, Block, Yield, Quantum, Preempt, Forced, Out, SwitchEntry}
 use Rattle.model.specs.Accounting.{Sums}
 use Rattle.model.specs.Calls.{JoinOutcome, Wait, Done, Invalid}
 use Rattle.text.specs.Bytes.{ascii, decimal}
 use Rattle.text.specs.Lines.{commas, written}
-use Rattle.settings.specs.Settings.{Settings, policy_word, to_rcfg}
 use Rattle.script.specs.Report.{reason_word, join_word, maybe, out_tid, out_reason, switch_text, switch_texts, joined_text, refused_text, in_tenths, tenths, mean_text, summary_text}
 use Rattle.text.proofs.Decimal.{decimal-length, decimal-some}
 
@@ -141,24 +140,4 @@ summary_text-length now s h =
       line-length "turnaround" (mean_text s.turnaround s.finished) 22 (mean-length s.turnaround s.finished h.turnaround),
       number-line "busy" s.busy h.busy,
       number-line "core_ticks" s.core_ticks h.core_ticks,
-    ))
-
----- the settings
-
-policy-word : (p : Policy) → length (policy_word p) ≤ 8
-policy-word Off = omega arith
-policy-word Fifo = omega arith
-policy-word RoundRobin = omega arith
-policy-word Priority = omega arith
-
--- whatever the numbers of 32 bits: a buffer of 69 bytes is never short
-pub rcfg-length : (s : Settings) → s.quantum ≤ 4_294_967_295 → s.cost ≤ 4_294_967_295 → length (to_rcfg s) ≤ 69
-unfolding to_rcfg
-rcfg-length s h k =
-    simp length-append
-    (omega (
-      arith,
-      line-length "sched" (policy_word s.policy) 8 (policy-word s.policy),
-      line-length "sched_quantum" (decimal s.quantum) 10 (decimal-length 9 s.quantum (omega arith)),
-      line-length "sched_switch_cost" (decimal s.cost) 10 (decimal-length 9 s.cost (omega arith)),
     ))

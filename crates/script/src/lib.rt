@@ -1,2 +1,4 @@
-// The definition of scripts and of the report (specs/), and what is proved of it alone (proofs/). It has no code.
+// The definition of scripts and of the report (specs/), what is proved of it alone (proofs/), and the words that a report and a screen have in common.
 #![tactic(auto)]
+
+pub mod labels;

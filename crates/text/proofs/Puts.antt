@@ -1,11 +1,12 @@
 -- Texts put one behind the other into a buffer.
 use Prim.Native.Nat.{ℕ, ◌+◌, ◌≤◌}
-use mathlib.Core.Path.{◌≡◌, sym, ap, ◌∙◌}
-use mathlib.Core.List.{List, ◌++◌, append_assoc}
+use mathlib.Core.Path.{◌≡◌, refl, sym, ap, ◌∙◌, subst}
+use mathlib.Core.List.{List, [], ◌++◌, append_assoc}
 use native.Mathlib.Omega.{arith}
 use lib.ListN.{length, take, drop, length-append}
-use lib.Seq.{paste, take-paste, drop-paste, take-length, drop-drop, length-paste}
-use Rattle.text.specs.Buffers.{Put}
+use lib.Seq.{paste, paste-zero, take-paste, drop-paste, take-length, drop-drop, length-paste}
+use Rattle.text.specs.declared.put.Writer.{Writer}
+use Rattle.text.specs.Buffers.{Put, Wrote}
 
 module _ (b : List ℕ) (at : ℕ) (s : List ℕ) (b₁ : List ℕ) (r₁ : ℕ) (p : Put b at s b₁ r₁) (h : at + length s ≤ length b) where
   -- what stands in front of the end, and behind it
@@ -31,17 +32,30 @@ module _ (b : List ℕ) (at : ℕ) (s : List ℕ) (b₁ : List ℕ) (r₁ : ℕ)
     end = omega (arith, q.end, p.end, length-append s t);
   }
 
--- three texts in a row
-pub put_three : (b : List ℕ) (at : ℕ) (s b₁ : List ℕ) (r₁ : ℕ) (t b₂ : List ℕ) (r₂ : ℕ) (u b₃ : List ℕ) (r₃ : ℕ) → Put b at s b₁ r₁ → Put b₁ r₁ t b₂ r₂ → Put b₂ r₂ u b₃ r₃
-    → at + (length s + (length t + length u)) ≤ length b → Put b at (s ++ (t ++ u)) b₃ r₃
-put_three b at s b₁ r₁ t b₂ r₂ u b₃ r₃ p q w h =
-    let n : length (t ++ u) ≡ length t + length u = length-append t u in
-    let m : length b₁ ≡ length b = put-length b at s b₁ r₁ p (omega arith) in
-    let e : r₁ ≡ at + length s = p.end in
-    put_then b at s b₁ r₁ p (omega arith) (t ++ u) b₃ r₃ (put_then b₁ r₁ t b₂ r₂ q (omega arith) u b₃ r₃ w (omega arith)) (omega arith)
-
 pub put_same : (b : List ℕ) (at : ℕ) (t t' b' : List ℕ) (r : ℕ) → t ≡ t' → Put b at t b' r → Put b at t' b' r
 put_same b at t t' b' r e p = record {
   bytes = p.bytes ∙ ap (λ (x : List ℕ). paste b at x (length x)) e;
   end = p.end ∙ ap (λ (x : List ℕ). at + length x) e;
+}
+
+---- the same through a writer
+
+pub wrote_same : {w : Writer} {t t' : List ℕ} {w' : Writer} → t ≡ t' → Wrote w t w' → Wrote w t' w'
+wrote_same {w} {t} {t'} {w'} e p = subst (λ (x : List ℕ). Wrote w x w') e p
+
+-- where each text had room, the whole has
+pub wrote_then : {w : Writer} {s : List ℕ} {w₁ : Writer} {t : List ℕ} {w₂ : Writer} → Wrote w s w₁ → Wrote w₁ t w₂ → Wrote w (s ++ t) w₂
+wrote_then {w} {s} {w₁} {t} {w₂} p q =
+    let both : w.at + length s + length t ≤ length w.out.now = omega (arith, p.fits, q.fits, p.put.end, p.lent.long) in
+    record {
+      fits = omega (arith, both, length-append s t);
+      put = put_then w.out.now w.at s w₁.out.now w₁.at p.put p.fits t w₂.out.now w₂.at q.put both;
+      lent = record { same = q.lent.same ∙ p.lent.same; long = q.lent.long ∙ p.lent.long };
+    }
+
+pub wrote_none : (w : Writer) → w.at ≤ length w.out.now → Wrote w [] w
+wrote_none w h = record {
+  fits = omega arith;
+  put = record { bytes = paste-zero w.out.now w.at []; end = omega arith };
+  lent = record { same = refl; long = refl };
 }

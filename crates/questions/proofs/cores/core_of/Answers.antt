@@ -11,8 +11,8 @@ use Rattle.questions.proofs.cores.core_of.Invariants.{Board}
 use Rattle.questions.proofs.cores.core_of.Goals as goal
 
 -- the array holds the struct's states
-board : (s : Sched) (m : Memory) (v : Valid s m) (a : List Program.CoreState) → a ≡ states_of s.states → Board a s.exits s.blocks s.yields s.progressed s.cores
-board s m v a e = subst (λ (l : List Program.CoreState). Board l s.exits s.blocks s.yields s.progressed s.cores) (sym e) v.marks.unused
+board : (s : Sched) (m : Memory) (v : Valid s m) (a : List Program.CoreState) → a ≡ states_of s.states → Board a s.marks.exits s.marks.blocks s.marks.yields s.marks.progressed s.cores
+board s m v a e = subst (λ (l : List Program.CoreState). Board l s.marks.exits s.marks.blocks s.marks.yields s.marks.progressed s.cores) (sym e) v.marks.unused
 
 pub loop-i-init : goal.loop-i-init
 loop-i-init c = λ ex bl yi pr n b. refl

@@ -1,12 +1,8 @@
-use Rattle.std.proofs.Common.{◌∙◌, arith}
+use Rattle.std.proofs.Common.{◌∙◌}
 use Rattle.text.specs.Lines.{written, commas}
-use Rattle.settings.specs.Reading.{policy_meant}
-use Rattle.text.proofs.Puts.{put_same, put_three}
-use Rattle.rcfg.proofs.RoundTrip.{policy_short}
+use Rattle.text.proofs.Puts.{wrote_same, wrote_then}
 use Rattle.rcfg.proofs.writing.put_policy.Goals as goal
 
-pub returns-clause-put : goal.returns-clause-put
+pub returns : goal.returns
 unfolding written commas
-returns-clause-put c =
-    put_three _ _ _ _ _ _ _ _ _ _ _ c.put-a.ensures (put_same _ _ _ _ _ _ (c.as_bytes.ensures.value ∙ c.as_str.ensures) c.put-b.ensures) c.put.ensures
-    (omega (arith, policy_short (policy_meant c.args.policy)))
+returns c = wrote_then c.put.ensures (wrote_then (wrote_same (c.as_bytes.ensures.value ∙ c.as_str.ensures) c.put-2.ensures) c.put-3.ensures)
