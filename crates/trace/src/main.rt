@@ -2,15 +2,15 @@
 // many follow. differential/program compares what is written with the original Rust.
 #![tactic(auto)]
 
-ghost use Rattle.std.specs.Prelude.{◌≡◌, List, ℕ, ◌≤◌, length};
-ghost use Rattle.state.specs.Memory.{memory};
+ghost use Rattle.std.specs.Prelude.{◌≡◌, ◌≤◌, length};
+ghost use Rattle.state.specs.Memory.{held, SameLoans};
 ghost use Rattle.state.specs.State.{Valid};
 
-use model::ThreadInfo;
 use records::change::first_thread;
 use sched::{Call, apply};
 use sched_new::new;
 use settings::{SchedConfig, SchedPolicy};
+use state::memory::LentMemory;
 use state::{Capacities, Sched};
 use thread_questions::{bits_of, has_live_threads, has_runnable_threads, is_deadlocked};
 use trace_answers::{print_applied, print_bad, print_created, print_shown};
@@ -18,7 +18,7 @@ use trace_read::lines::{read_count, read_line};
 use trace_read::{Line, Setup};
 use trace_records::history::print_rest;
 use trace_records::thread::print_thread;
-use trace_state::cores::{print_figures, print_front};
+use trace_state::cores::{Left, print_figures, print_front};
 
 fn main() {
     let mut threads = [first_thread(0); 256];
@@ -28,56 +28,47 @@ fn main() {
     let mut lanes = [0u64; 65616];
     // more lines than that are not read
     let n = read_count().min(1_000_000_000);
-    run(
-        n,
-        &mut threads,
-        &mut queue,
-        &mut prios,
-        &mut log,
-        &mut lanes,
-    );
+    let mut m = LentMemory {
+        threads: &mut threads,
+        queue: &mut queue,
+        prios: &mut prios,
+        log: &mut log,
+        lanes: &mut lanes,
+    };
+    run(n, &mut m);
 }
 
 // The whole state.
-fn show(s: Sched, threads: &[ThreadInfo], queue: &[u32], log: &[u64], lanes: &[u64])
-    requires { (ps : List ℕ) × Valid s (memory threads.now queue.now ps log.now lanes.now) }
+fn show(s: Sched, m: &LentMemory)
+    requires { Valid s (held m.now) }
 {
     print_shown();
-    print_front(s, queue);
-    for t in thread_questions::threads(s, threads) {
+    print_front(s, m.queue);
+    for t in thread_questions::threads(s, m.threads) {
         print_thread(*t);
     }
-    let live = has_live_threads(s, threads);
-    let runnable = has_runnable_threads(s, threads);
-    let deadlocked = is_deadlocked(s, threads);
-    print_rest(s, live, runnable, deadlocked, log, lanes);
-    let f = bits_of(s, threads);
+    let left = Left {
+        live: has_live_threads(s, m.threads),
+        runnable: has_runnable_threads(s, m.threads),
+        deadlocked: is_deadlocked(s, m.threads),
+    };
+    print_rest(s, left, m.log, m.lanes);
+    let f = bits_of(s, m.threads);
     print_figures(f.waiting, f.response, f.turnaround, f.utilization);
 }
 
 // `new`; a refused one leaves the scheduler that is there.
-fn start(
-    setup: Setup,
-    s: Sched,
-    threads: &mut [ThreadInfo],
-    queue: &[u32],
-    prios: &mut [u32],
-    log: &mut [u64],
-    lanes: &[u64],
-) -> Sched
-    requires { Valid s (memory threads.old queue.now prios.old log.old lanes.now) }
-    ensures { Valid result (memory threads.new queue.now prios.new log.new lanes.now) }
+fn start(setup: Setup, s: Sched, m: &mut LentMemory) -> Sched
+    requires { Valid s (held m.old) }
+    ensures valid { Valid result (held m.new) }
+    ensures lent { SameLoans m.old m.new }
 {
     let created = new(
         setup.config,
         setup.cores,
         setup.capacities,
         setup.entry_pc,
-        threads,
-        queue,
-        prios,
-        log,
-        lanes,
+        m,
     );
     print_created(created.answer);
     match created.answer {
@@ -87,60 +78,38 @@ fn start(
 }
 
 // Any other call.
-fn step(
-    s: Sched,
-    call: Call,
-    threads: &mut [ThreadInfo],
-    queue: &mut [u32],
-    prios: &mut [u32],
-    log: &mut [u64],
-    lanes: &mut [u64],
-) -> Sched
-    requires { Valid s (memory threads.old queue.old prios.old log.old lanes.old) }
-    ensures { Valid result (memory threads.new queue.new prios.new log.new lanes.new) }
+fn step(s: Sched, call: Call, m: &mut LentMemory) -> Sched
+    requires { Valid s (held m.old) }
+    ensures valid { Valid result (held m.new) }
+    ensures lent { SameLoans m.old m.new }
 {
-    let applied = apply(s, call, threads, queue, prios, log, lanes);
+    let applied = apply(s, call, m);
     print_applied(applied);
     applied.sched
 }
 
 // One line of the script.
-fn trace_line(
-    s: Sched,
-    line: Line,
-    threads: &mut [ThreadInfo],
-    queue: &mut [u32],
-    prios: &mut [u32],
-    log: &mut [u64],
-    lanes: &mut [u64],
-) -> Sched
-    requires { Valid s (memory threads.old queue.old prios.old log.old lanes.old) }
-    ensures { Valid result (memory threads.new queue.new prios.new log.new lanes.new) }
+fn trace_line(s: Sched, line: Line, m: &mut LentMemory) -> Sched
+    requires { Valid s (held m.old) }
+    ensures valid { Valid result (held m.new) }
+    ensures lent { SameLoans m.old m.new }
 {
     match line {
-        Line::New(setup) => start(setup, s, threads, queue, prios, log, lanes),
-        Line::Call(call) => step(s, call, threads, queue, prios, log, lanes),
+        Line::New(setup) => start(setup, s, m),
+        Line::Call(call) => step(s, call, m),
         Line::Show => {
-            show(s, threads, queue, log, lanes);
-            s
-        }
-        Line::Bad => {
-            print_bad();
+            show(s, m);
             s
         }
     }
 }
 
 // The scheduler that there is before a script's first line.
-fn first(
-    threads: &mut [ThreadInfo],
-    queue: &[u32],
-    prios: &mut [u32],
-    log: &mut [u64],
-    lanes: &[u64],
-) -> Sched
-    requires { (length threads.old ≡ 256) × (length queue.now ≡ 256) × (length prios.old ≡ 256) × (length log.old ≡ 1024) × (length lanes.now ≡ 65616) }
-    ensures { Valid result (memory threads.new queue.now prios.new log.new lanes.now) }
+fn first(m: &mut LentMemory) -> Sched
+    requires { (length m.old.threads.now ≡ 256) × (length m.old.queue.now ≡ 256) × (length m.old.prios.now ≡ 256) × (length m.old.log.now ≡ 1024)
+        × (length m.old.lanes.now ≡ 65616) }
+    ensures valid { Valid result (held m.new) }
+    ensures lent { SameLoans m.old m.new }
 {
     let config = SchedConfig {
         policy: SchedPolicy::RoundRobin,
@@ -152,25 +121,21 @@ fn first(
         events: 1,
         segments: 1,
     };
-    let created = new(config, 1, capacities, 0, threads, queue, prios, log, lanes);
+    let created = new(config, 1, capacities, 0, m);
     created.sched
 }
 
 // The first n lines of the script.
-fn run(
-    n: usize,
-    threads: &mut [ThreadInfo],
-    queue: &mut [u32],
-    prios: &mut [u32],
-    log: &mut [u64],
-    lanes: &mut [u64],
-)
-    requires { (n ≤ 1000000000) × (length threads.old ≡ 256) × (length queue.old ≡ 256) × (length prios.old ≡ 256) × (length log.old ≡ 1024)
-        × (length lanes.old ≡ 65616) }
+fn run(n: usize, m: &mut LentMemory)
+    requires { (n ≤ 1000000000) × (length m.old.threads.now ≡ 256) × (length m.old.queue.now ≡ 256) × (length m.old.prios.now ≡ 256)
+        × (length m.old.log.now ≡ 1024) × (length m.old.lanes.now ≡ 65616) }
+    ensures { SameLoans m.old m.new }
 {
-    let mut s = first(threads, queue, prios, log, lanes);
+    let mut s = first(m);
     for _ in 0..n {
-        let line = read_line();
-        s = trace_line(s, line, threads, queue, prios, log, lanes);
+        match read_line() {
+            Some(line) => s = trace_line(s, line, m),
+            None => print_bad(),
+        }
     }
 }

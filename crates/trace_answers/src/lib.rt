@@ -3,95 +3,93 @@
 // buffers.
 #![tactic(auto)]
 
-ghost use Rattle.std.specs.Prelude.{◌≤◌, length};
+ghost use Rattle.std.specs.Prelude.{◌≤◌};
+ghost use Rattle.trace_text.specs.Streams.{Within, Grown};
 
-use model::{JoinOutcome, SwitchOut, SwitchWords};
+use model::{JoinOutcome, Switch, SwitchOut};
 use sched::{Applied, Outcome};
 use settings::Refusal;
-use switches::{SwitchList, switch_of};
+use switches::SwitchList;
 use text::STDOUT_FILENO;
-use trace_text::out::{put_number, put_reason, put_spaced, put_text, put_tid};
+use trace_text::out::Stream;
 
-fn put_refused(out: &mut [u8], at: usize, refusal: Refusal) -> usize
-    requires { at ≤ length out.old }
-    ensures { result ≤ length out.old }
+fn put_refused(out: &mut Stream, refusal: Refusal)
+    requires { Within out.old }
+    ensures { Grown out.old out.new }
 {
-    let a = put_text(out, at, b"refused");
-    put_spaced(out, a, refusal.number())
+    out.text(b"refused");
+    out.spaced(refusal.number());
 }
 
-fn put_joined(out: &mut [u8], at: usize, outcome: JoinOutcome) -> usize
-    requires { at ≤ length out.old }
-    ensures { result ≤ length out.old }
+fn put_joined(out: &mut Stream, outcome: JoinOutcome)
+    requires { Within out.old }
+    ensures { Grown out.old out.new }
 {
     match outcome {
-        JoinOutcome::Wait => put_text(out, at, b"joined wait"),
-        JoinOutcome::Done => put_text(out, at, b"joined done"),
-        JoinOutcome::Invalid => put_text(out, at, b"joined invalid"),
+        JoinOutcome::Wait => out.text(b"joined wait"),
+        JoinOutcome::Done => out.text(b"joined done"),
+        JoinOutcome::Invalid => out.text(b"joined invalid"),
     }
 }
 
-fn put_out(out: &mut [u8], at: usize, left: Option<SwitchOut>) -> usize
-    requires { at ≤ length out.old }
-    ensures { result ≤ length out.old }
+fn put_out(out: &mut Stream, left: Option<SwitchOut>)
+    requires { Within out.old }
+    ensures { Grown out.old out.new }
 {
     match left {
-        None => put_text(out, at, b" - -"),
+        None => out.text(b" - -"),
         Some(o) => {
-            let a = put_spaced(out, at, o.tid.0 as u64);
-            let b = put_text(out, a, b" ");
-            put_reason(out, b, o.reason)
+            out.spaced(o.tid.0 as u64);
+            out.text(b" ");
+            out.reason(o.reason);
         }
     }
 }
 
 // An entry of the switch list, after a comma: core, thread out, reason, thread in.
-fn put_switch(out: &mut [u8], at: usize, w: SwitchWords) -> usize
-    requires { at ≤ length out.old }
-    ensures { result ≤ length out.old }
+fn put_switch(out: &mut Stream, e: Switch)
+    requires { Within out.old }
+    ensures { Grown out.old out.new }
 {
-    let e = switch_of(w);
-    let left = e.out;
-    let a = put_text(out, at, b", ");
-    let b = put_number(out, a, e.core.0 as u64);
-    let c = put_out(out, b, left);
-    put_tid(out, c, e.inn)
+    out.text(b", ");
+    out.number(e.core.0 as u64);
+    put_out(out, e.out);
+    out.tid(e.inn);
 }
 
-fn put_switches(out: &mut [u8], at: usize, list: SwitchList) -> usize
-    requires { (at ≤ length out.old) × (list.count ≤ 8) }
-    ensures { result ≤ length out.old }
+fn put_switches(out: &mut Stream, list: SwitchList)
+    requires { Within out.old × (list.count ≤ 8) }
+    ensures { Grown out.old out.new }
 {
-    let mut to = put_text(out, at, b"switched");
+    out.text(b"switched");
     for e in &list.entries[..list.count] {
-        to = put_switch(out, to, *e);
+        put_switch(out, *e);
     }
-    to
 }
 
-fn put_applied(out: &mut [u8], at: usize, done: Applied) -> usize
-    requires { (at ≤ length out.old) × (done.switches.count ≤ 8) }
-    ensures { result ≤ length out.old }
+fn put_applied(out: &mut Stream, done: Applied)
+    requires { Within out.old × (done.switches.count ≤ 8) }
+    ensures { Grown out.old out.new }
 {
     match done.outcome {
-        Err(k) => put_refused(out, at, k),
-        Ok(Outcome::Taken) => put_text(out, at, b"ok"),
+        Err(k) => put_refused(out, k),
+        Ok(Outcome::Taken) => out.text(b"ok"),
         Ok(Outcome::Spawned(tid)) => {
-            let a = put_text(out, at, b"spawned");
-            put_spaced(out, a, tid.0 as u64)
+            out.text(b"spawned");
+            out.spaced(tid.0 as u64);
         }
-        Ok(Outcome::Joined(o)) => put_joined(out, at, o),
-        Ok(Outcome::Switched) => put_switches(out, at, done.switches),
+        Ok(Outcome::Joined(o)) => put_joined(out, o),
+        Ok(Outcome::Switched) => put_switches(out, done.switches),
     }
 }
 
-fn put_created(out: &mut [u8], at: usize, answer: Result<(), Refusal>) -> usize
-    requires { at ≤ length out.old }
-    ensures { result ≤ length out.old }
+fn put_created(out: &mut Stream, answer: Result<(), Refusal>)
+    requires { Within out.old }
+    ensures { Grown out.old out.new }
 {
     match answer {
-        Ok(()) => put_text(out, at, b"ok"),
-        Err(k) => put_refused(out, at, k),
+        Ok(()) => out.text(b"ok"),
+        Err(k) => put_refused(out, k),
     }
 }
 
@@ -99,18 +97,26 @@ fn put_created(out: &mut [u8], at: usize, answer: Result<(), Refusal>) -> usize
 pub fn print_applied(done: Applied)
     requires { done.switches.count ≤ 8 }
 {
-    let mut out = [0u8; 256];
-    let a = put_applied(&mut out, 0, done);
-    let n = put_text(&mut out, a, b"\n");
-    io::write_all(STDOUT_FILENO, &out[..n]);
+    let mut buffer = [0u8; 256];
+    let mut out = Stream {
+        out: &mut buffer,
+        at: 0,
+    };
+    put_applied(&mut out, done);
+    out.text(b"\n");
+    out.write_out();
 }
 
 // What `new` answered.
 pub fn print_created(answer: Result<(), Refusal>) {
-    let mut out = [0u8; 256];
-    let a = put_created(&mut out, 0, answer);
-    let n = put_text(&mut out, a, b"\n");
-    io::write_all(STDOUT_FILENO, &out[..n]);
+    let mut buffer = [0u8; 256];
+    let mut out = Stream {
+        out: &mut buffer,
+        at: 0,
+    };
+    put_created(&mut out, answer);
+    out.text(b"\n");
+    out.write_out();
 }
 
 // What follows is the state.

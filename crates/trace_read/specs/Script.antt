@@ -7,10 +7,11 @@
 --   5 CORE                                    yield_now  11                show: the whole state
 use Rattle.model.specs.declared.Tid.{Tid}
 use Rattle.std.specs.Prelude as Std
-use Rattle.std.specs.Prelude.{ℕ, zero, suc, ◌+◌, ◌≤◌, ◌≡◌, Bool, true, not, List, [], ◌∷◌, eqb, length, take, drop, get_or, Some, None}
+use Rattle.std.specs.Prelude.{ℕ, zero, suc, ◌+◌, ◌≤◌, ◌≡◌, true, not, List, [], ◌∷◌, eqb, length, take, drop, get_or, unwrap_or, Some, None}
 use Rattle.std.proofs.Math.Option.{Option, none, some}
 use Rattle.text.specs.Scan.{index_of}
 use Rattle.text.specs.Bytes.{all, number}
+use Rattle.settings.specs.Reading.{numbered}
 use Rattle.settings.specs.declared.SchedPolicy.{SchedPolicy}
 use Rattle.settings.specs.declared.SchedPolicy.TheVariants as PolicyCases
 use Rattle.model.specs.declared.CoreId.{CoreId}
@@ -36,9 +37,9 @@ fields_of (suc n) (x ∷ l) = number_said (number (take (index_of 32 (x ∷ l)) 
 abbrev pub field : ℕ → List (Std.Option ℕ) → Std.Option ℕ
 field i f = get_or f i None
 
--- a field that must be a number
-unfoldable pub needing : Std.Option ℕ → (ℕ → Line) → Line
-needing None g = Lines.Bad
+-- a field that must be a number; a line where it is none says nothing
+unfoldable pub needing : Std.Option ℕ → (ℕ → Std.Option Line) → Std.Option Line
+needing None g = None
 needing (Some n) g = g n
 
 -- a thread that may be absent
@@ -48,17 +49,13 @@ thread_said (Some t) = Some (record { 0 = t })
 
 -- 0 where there is no number
 abbrev pub or_zero : Std.Option ℕ → ℕ
-or_zero None = 0
-or_zero (Some n) = n
+or_zero n = unwrap_or n 0
 
----- what it says
+---- what it says; `None`: a line that cannot be read
 
 -- in the Rust's order; a larger number is the last
 abbrev pub policy_numbered : ℕ → SchedPolicy
-policy_numbered zero = PolicyCases.Off
-policy_numbered (suc zero) = PolicyCases.Fifo
-policy_numbered (suc (suc zero)) = PolicyCases.RoundRobin
-policy_numbered (suc (suc (suc n))) = PolicyCases.Priority
+policy_numbered n = unwrap_or (numbered n) PolicyCases.Priority
 
 abbrev pub setup_of : (policy quantum cost cores t e s entry : ℕ) → Setup
 setup_of policy quantum cost cores t e s entry =
@@ -69,26 +66,26 @@ setup_of policy quantum cost cores t e s entry =
       entry_pc = entry;
     }
 
-unfoldable pub new_line : List (Std.Option ℕ) → Line
+unfoldable pub new_line : List (Std.Option ℕ) → Std.Option Line
 new_line f =
     needing (field 1 f) (λ policy. needing (field 2 f) (λ quantum. needing (field 3 f) (λ cost. needing (field 4 f) (λ cores.
     needing (field 5 f) (λ t. needing (field 6 f) (λ e. needing (field 7 f) (λ s. needing (field 8 f) (λ entry.
-    Lines.New (setup_of policy quantum cost cores t e s entry)))))))))
+    Some (Lines.New (setup_of policy quantum cost cores t e s entry))))))))))
 
-unfoldable pub spawn_line : List (Std.Option ℕ) → Line
-spawn_line f = Lines.Call (Calls.Spawn (thread_said (field 1 f)) (or_zero (field 2 f)))
+unfoldable pub spawn_line : List (Std.Option ℕ) → Std.Option Line
+spawn_line f = Some (Lines.Call (Calls.Spawn (thread_said (field 1 f)) (or_zero (field 2 f))))
 
-unfoldable pub core_line : (CoreId → Call) → List (Std.Option ℕ) → Line
-core_line call f = needing (field 1 f) (λ core. Lines.Call (call (record { 0 = core })))
+unfoldable pub core_line : (CoreId → Call) → List (Std.Option ℕ) → Std.Option Line
+core_line call f = needing (field 1 f) (λ core. Some (Lines.Call (call (record { 0 = core }))))
 
-unfoldable pub pair_line : (ℕ → ℕ → Call) → List (Std.Option ℕ) → Line
-pair_line call f = needing (field 1 f) (λ a. needing (field 2 f) (λ b. Lines.Call (call a b)))
+unfoldable pub pair_line : (ℕ → ℕ → Call) → List (Std.Option ℕ) → Std.Option Line
+pair_line call f = needing (field 1 f) (λ a. needing (field 2 f) (λ b. Some (Lines.Call (call a b))))
 
-unfoldable pub force_line : List (Std.Option ℕ) → Line
-force_line f = needing (field 1 f) (λ core. Lines.Call (Calls.ForceSwitch (record { 0 = core }) (thread_said (field 2 f))))
+unfoldable pub force_line : List (Std.Option ℕ) → Std.Option Line
+force_line f = needing (field 1 f) (λ core. Some (Lines.Call (Calls.ForceSwitch (record { 0 = core }) (thread_said (field 2 f)))))
 
 -- in the order of the codes
-abbrev pub codes : List (List (Std.Option ℕ) → Line)
+abbrev pub codes : List (List (Std.Option ℕ) → Std.Option Line)
 codes =
     new_line ∷
     spawn_line ∷
@@ -99,15 +96,15 @@ codes =
     pair_line (λ tid n. Calls.SetPriority (record { 0 = tid }) n) ∷
     pair_line (λ quantum cost. Calls.SetTiming quantum cost) ∷
     force_line ∷
-    (λ f. Lines.Call Calls.EndTick) ∷
+    (λ f. Some (Lines.Call Calls.EndTick)) ∷
     core_line Calls.Close ∷
-    (λ f. Lines.Show) ∷
+    (λ f. Some Lines.Show) ∷
     []
 
-unfoldable pub line_said : List (Std.Option ℕ) → (code : ℕ) → Line
-line_said f code = get_or codes code (λ g. Lines.Bad) f
+unfoldable pub line_said : List (Std.Option ℕ) → (code : ℕ) → Std.Option Line
+line_said f code = get_or codes code (λ g. None) f
 
-unfoldable pub line_of : List ℕ → Line
+unfoldable pub line_of : List ℕ → Std.Option Line
 line_of l = needing (field 0 (fields_of 9 l)) (line_said (fields_of 9 l))
 
 -- the first line

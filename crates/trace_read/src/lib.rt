@@ -1,4 +1,4 @@
-// A trace's script: its lines read from standard input, and what each says. Nothing here has a slice of thread records.
+// A trace's script: its lines read from standard input, and what each says.
 // The `pub` functions are parts of the program `trace`. Which bytes are read no contract can say; those here say what they mean.
 #![tactic(auto)]
 
@@ -23,5 +23,4 @@ pub enum Line {
     New(Setup),
     Call(Call),
     Show,
-    Bad,
 }

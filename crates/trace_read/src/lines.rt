@@ -1,8 +1,9 @@
 // A script's lines read from standard input, and taken apart.
 ghost use Rattle.std.specs.Prelude.{◌≡◌, true, not, ◌≤◌, eqb, length, take};
+ghost use Rattle.std.specs.Option.{option_map};
 ghost use Rattle.text.specs.Bytes.{all};
-ghost use Rattle.trace_read.specs.Script.{fields_of, or_zero, thread_said, policy_numbered, line_of, count_of, Read};
-ghost use Rattle.trace_read.specs.Parts.{is_number, are_numbers, asked_numbers, setup_in, core_call, pair_call, line_with};
+ghost use Rattle.trace_read.specs.declared.Line.TheVariants as Lines;
+ghost use Rattle.trace_read.specs.Script.{fields_of, field, policy_numbered, needing, new_line, line_said, line_of, count_of, Read};
 
 use crate::{Line, Setup};
 use model::{CoreId, Tid};
@@ -11,7 +12,6 @@ use settings::{SchedConfig, SchedPolicy};
 use state::Capacities;
 use text::STDIN_FILENO;
 use text::numbers::read_number;
-use text::scan::find;
 
 // The next byte, 10 where the input has ended.
 fn read_byte() -> u8 {
@@ -22,7 +22,7 @@ fn read_byte() -> u8 {
 
 const LINE_END: u8 = 10;
 
-// One line without its byte 10, read byte by byte: whoever holds the thread records then needs no input buffer. A line that is too long is cut.
+// One line without its byte 10, read byte by byte: nothing is kept from one line to the next. A line that is too long is cut.
 fn read_bytes(buffer: &mut [u8]) -> usize
     ensures { (result ≤ length buffer.old) × (all (λ b. not (eqb b 10)) (take result buffer.new) ≡ true) }
 {
@@ -41,157 +41,77 @@ pub fn fields(line: &[u8]) -> [Option<u32>; 9]
     ensures { result ≡ fields_of 9 line.now }
 {
     let mut all = [None; 9];
-    let n = line.len();
-    let mut at = 0;
-    for k in 0..9 {
-        if n <= at {
-            break;
-        }
-        let end = find(line, at, n, b' ').unwrap_or(n);
-        all[k] = read_number(&line[at..end]);
-        at = end + 1;
+    let mut rest = line.split(|b| *b == b' ');
+    for place in &mut all {
+        *place = rest.next().and_then(read_number);
     }
     all
-}
-
-// 0 where there is none.
-fn number(n: Option<u32>) -> u32
-    ensures { result ≡ or_zero n }
-{
-    n.unwrap_or(0)
-}
-
-fn is_number(n: Option<u32>) -> bool
-    ensures { result ≡ is_number n }
-{
-    n.is_some()
-}
-
-fn maybe_tid(n: Option<u32>) -> Option<Tid>
-    ensures { result ≡ thread_said n }
-{
-    n.map(Tid)
-}
-
-// Whether the fields 0 to n - 1 are numbers.
-fn are_numbers(f: [Option<u32>; 9], n: usize) -> bool
-    requires { n ≤ 9 }
-    ensures { result ≡ are_numbers (take n f) }
-{
-    f[..n].iter().all(|x| is_number(*x))
 }
 
 fn policy_of(n: u32) -> SchedPolicy
     ensures { result ≡ policy_numbered n }
 {
-    match n {
-        0 => SchedPolicy::Off,
-        1 => SchedPolicy::Fifo,
-        2 => SchedPolicy::RoundRobin,
-        _ => SchedPolicy::Priority,
-    }
+    SchedPolicy::numbered(n).unwrap_or(SchedPolicy::Priority)
 }
 
-// 0 POLICY QUANTUM COST CORES T E S ENTRY
-fn setup_of(f: [Option<u32>; 9]) -> Setup
-    ensures { result ≡ setup_in f }
+// POLICY QUANTUM COST CORES T E S ENTRY, behind the code.
+#[tactic(auto, unfolding(crate::specs::Script::needing, crate::specs::Script::new_line))]
+fn setup_of(f: [Option<u32>; 9]) -> Option<Setup>
+    ensures { option_map Lines.New result ≡ new_line f }
 {
     let config = SchedConfig {
-        policy: policy_of(number(f[1])),
-        quantum: number(f[2]),
-        switch_cost: number(f[3]),
+        policy: policy_of(f[1]?),
+        quantum: f[2]?,
+        switch_cost: f[3]?,
     };
+    let cores = f[4]?;
     let capacities = Capacities {
-        threads: number(f[5]) as usize,
-        events: number(f[6]) as usize,
-        segments: number(f[7]) as usize,
+        threads: f[5]? as usize,
+        events: f[6]? as usize,
+        segments: f[7]? as usize,
     };
-    let cores = number(f[4]);
-    let entry_pc = number(f[8]);
-    Setup {
+    let entry_pc = f[8]?;
+    Some(Setup {
         config,
         cores,
         capacities,
         entry_pc,
-    }
+    })
 }
 
-// The calls whose fields are one number, a core.
-fn core_call(code: u32, core: CoreId) -> Line
-    ensures { result ≡ core_call code core }
+// What the fields say, by the code, which is the first.
+#[tactic(auto, unfolding(crate::specs::Script::needing, crate::specs::Script::line_said, crate::specs::Script::spawn_line, crate::specs::Script::core_line, crate::specs::Script::pair_line, crate::specs::Script::force_line), using(crate::proofs::Saying::code_other))]
+fn line_in(f: [Option<u32>; 9]) -> Option<Line>
+    ensures { result ≡ needing (field 0 f) (line_said f) }
 {
-    match code {
-        2 => Line::Call(Call::Exit(core)),
-        4 => Line::Call(Call::Retired(core)),
-        5 => Line::Call(Call::YieldNow(core)),
-        10 => Line::Call(Call::Close(core)),
-        _ => Line::Bad,
-    }
-}
-
-// The calls whose fields are two numbers.
-fn pair_call(code: u32, a: u32, b: u32) -> Line
-    ensures { result ≡ pair_call code a b }
-{
-    match code {
-        3 => Line::Call(Call::Join(CoreId(a), Tid(b))),
-        6 => Line::Call(Call::SetPriority(Tid(a), b)),
-        7 => Line::Call(Call::SetTiming(a, b)),
-        _ => Line::Bad,
-    }
-}
-
-// How many numbers each code asks for, its own among them; a thread that may be absent is none of them.
-fn asked_numbers(code: u32) -> usize
-    ensures { (result ≡ asked_numbers code) × (result ≤ 9) }
-{
-    match code {
-        0 => 9,
-        1 => 1,
-        2 => 2,
-        3 => 3,
-        4 => 2,
-        5 => 2,
-        6 => 3,
-        7 => 3,
-        8 => 2,
-        10 => 2,
-        _ => 1,
-    }
-}
-
-fn line_of(code: u32, f: [Option<u32>; 9]) -> Line
-    ensures { result ≡ line_with code f }
-{
-    let a = f[1];
-    let b = f[2];
-    let first = number(a);
-    let second = number(b);
-    match code {
-        0 => Line::New(setup_of(f)),
-        1 => Line::Call(Call::Spawn(maybe_tid(a), second)),
-        8 => Line::Call(Call::ForceSwitch(CoreId(first), maybe_tid(b))),
+    let line = match f[0]? {
+        0 => Line::New(setup_of(f)?),
+        1 => Line::Call(Call::Spawn(f[1].map(Tid), f[2].unwrap_or(0))),
+        2 => Line::Call(Call::Exit(CoreId(f[1]?))),
+        3 => Line::Call(Call::Join(CoreId(f[1]?), Tid(f[2]?))),
+        4 => Line::Call(Call::Retired(CoreId(f[1]?))),
+        5 => Line::Call(Call::YieldNow(CoreId(f[1]?))),
+        6 => Line::Call(Call::SetPriority(Tid(f[1]?), f[2]?)),
+        7 => Line::Call(Call::SetTiming(f[1]?, f[2]?)),
+        8 => Line::Call(Call::ForceSwitch(CoreId(f[1]?), f[2].map(Tid))),
         9 => Line::Call(Call::EndTick),
+        10 => Line::Call(Call::Close(CoreId(f[1]?))),
         11 => Line::Show,
-        3 | 6 | 7 => pair_call(code, first, second),
-        _ => core_call(code, CoreId(first)),
-    }
+        _ => return None,
+    };
+    Some(line)
 }
 
-// What a line says.
-pub fn parsed(line: &[u8]) -> Line
+// What a line says; None where it cannot be read.
+#[tactic(auto, unfolding(crate::specs::Script::line_of))]
+pub fn parsed(line: &[u8]) -> Option<Line>
     ensures { result ≡ line_of line.now }
 {
-    let f = fields(line);
-    let code = number(f[0]);
-    if !are_numbers(f, asked_numbers(code)) {
-        return Line::Bad;
-    }
-    line_of(code, f)
+    line_in(fields(line))
 }
 
 // The next line of the script. Which bytes are read is open.
-pub fn read_line() -> Line
+pub fn read_line() -> Option<Line>
     ensures { Read (λ l. result ≡ line_of l) }
 {
     let mut buffer = [0u8; 128];
@@ -205,5 +125,5 @@ pub fn read_count() -> usize
 {
     let mut buffer = [0u8; 128];
     let n = read_bytes(&mut buffer);
-    number(read_number(&buffer[..n])) as usize
+    read_number(&buffer[..n]).unwrap_or(0) as usize
 }

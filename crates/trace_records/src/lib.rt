@@ -1,4 +1,4 @@
-// A trace's records, written as lines: one thread's record, the log and the timelines. Nothing here has a slice of thread records.
+// A trace's records, written as lines: one thread's record, the log and the timelines.
 // The `pub` functions are parts of the program `trace`. No contract can say what is written to standard output; those here keep the positions within the
 // buffers.
 #![tactic(auto)]

@@ -1,124 +1,124 @@
 // One thread's record as a line.
-ghost use Rattle.std.specs.Prelude.{◌≤◌, length};
+ghost use Rattle.trace_text.specs.Streams.{Within, Grown};
 
 use model::{LastLeave, ThreadInfo, ThreadState, ThreadStats};
 use questions::times::{response, turnaround};
-use text::STDOUT_FILENO;
-use trace_text::out::{put_core, put_reason, put_spaced, put_text, put_tick, put_tid};
+use trace_text::out::Stream;
 
-fn put_life(out: &mut [u8], at: usize, state: ThreadState) -> usize
-    requires { at ≤ length out.old }
-    ensures { result ≤ length out.old }
+fn put_life(out: &mut Stream, state: ThreadState)
+    requires { Within out.old }
+    ensures { Grown out.old out.new }
 {
     match state {
-        ThreadState::Ready => put_text(out, at, b" ready"),
+        ThreadState::Ready => out.text(b" ready"),
         ThreadState::Running(core) => {
-            let a = put_text(out, at, b" running");
-            put_spaced(out, a, core.0 as u64)
+            out.text(b" running");
+            out.spaced(core.0 as u64);
         }
         ThreadState::Blocked(on) => {
-            let a = put_text(out, at, b" blocked");
-            put_spaced(out, a, on.0 as u64)
+            out.text(b" blocked");
+            out.spaced(on.0 as u64);
         }
-        ThreadState::Exited => put_text(out, at, b" exited"),
+        ThreadState::Exited => out.text(b" exited"),
     }
 }
 
-fn put_leave(out: &mut [u8], at: usize, left: Option<LastLeave>) -> usize
-    requires { at ≤ length out.old }
-    ensures { result ≤ length out.old }
+fn put_leave(out: &mut Stream, left: Option<LastLeave>)
+    requires { Within out.old }
+    ensures { Grown out.old out.new }
 {
     match left {
-        None => put_text(out, at, b" -"),
+        None => out.text(b" -"),
         Some(l) => {
-            let a = put_spaced(out, at, l.tick.0);
-            let b = put_spaced(out, a, l.core.0 as u64);
-            let c = put_text(out, b, b" ");
-            put_reason(out, c, l.reason)
+            out.spaced(l.tick.0);
+            out.spaced(l.core.0 as u64);
+            out.text(b" ");
+            out.reason(l.reason);
         }
     }
 }
 
-fn put_identity(out: &mut [u8], at: usize, t: ThreadInfo) -> usize
-    requires { at ≤ length out.old }
-    ensures { result ≤ length out.old }
+fn put_identity(out: &mut Stream, t: ThreadInfo)
+    requires { Within out.old }
+    ensures { Grown out.old out.new }
 {
-    let a = put_text(out, at, b"thread");
-    let b = put_spaced(out, a, t.tid.0 as u64);
-    put_tid(out, b, t.parent)
+    out.text(b"thread");
+    out.spaced(t.tid.0 as u64);
+    out.tid(t.parent);
 }
 
-fn put_standing(out: &mut [u8], at: usize, t: ThreadInfo) -> usize
-    requires { at ≤ length out.old }
-    ensures { result ≤ length out.old }
+fn put_standing(out: &mut Stream, t: ThreadInfo)
+    requires { Within out.old }
+    ensures { Grown out.old out.new }
 {
-    let a = put_spaced(out, at, t.entry_pc as u64);
-    let b = put_spaced(out, a, t.priority as u64);
-    put_life(out, b, t.state)
+    out.spaced(t.entry_pc as u64);
+    out.spaced(t.priority as u64);
+    put_life(out, t.state);
 }
 
 // What it did last.
-fn put_last(out: &mut [u8], at: usize, t: ThreadInfo) -> usize
-    requires { at ≤ length out.old }
-    ensures { result ≤ length out.old }
+fn put_last(out: &mut Stream, t: ThreadInfo)
+    requires { Within out.old }
+    ensures { Grown out.old out.new }
 {
-    let core = t.last_core;
-    let dispatch = t.last_dispatch;
-    let left = t.last_leave;
-    let a = put_text(out, at, b" last");
-    let b = put_core(out, a, core);
-    let c = put_tick(out, b, dispatch);
-    put_leave(out, c, left)
+    out.text(b" last");
+    out.core(t.last_core);
+    out.tick(t.last_dispatch);
+    put_leave(out, t.last_leave);
 }
 
-fn put_times(out: &mut [u8], at: usize, stats: ThreadStats) -> usize
-    requires { at ≤ length out.old }
-    ensures { result ≤ length out.old }
+fn put_times(out: &mut Stream, stats: ThreadStats)
+    requires { Within out.old }
+    ensures { Grown out.old out.new }
 {
-    let a = put_text(out, at, b" times");
-    let b = put_spaced(out, a, stats.arrival.0);
-    let c = put_tick(out, b, stats.first_run);
-    put_tick(out, c, stats.finish)
+    out.text(b" times");
+    out.spaced(stats.arrival.0);
+    out.tick(stats.first_run);
+    out.tick(stats.finish);
 }
 
-fn put_counts(out: &mut [u8], at: usize, stats: ThreadStats) -> usize
-    requires { at ≤ length out.old }
-    ensures { result ≤ length out.old }
+fn put_counts(out: &mut Stream, stats: ThreadStats)
+    requires { Within out.old }
+    ensures { Grown out.old out.new }
 {
-    let a = put_text(out, at, b" counts");
-    let b = put_spaced(out, a, stats.run_ticks);
-    let c = put_spaced(out, b, stats.ready_ticks);
-    let d = put_spaced(out, c, stats.blocked_ticks);
-    let e = put_spaced(out, d, stats.dispatches);
-    let f = put_spaced(out, e, stats.preemptions);
-    put_spaced(out, f, stats.yields)
+    out.text(b" counts");
+    out.spaced(stats.run_ticks);
+    out.spaced(stats.ready_ticks);
+    out.spaced(stats.blocked_ticks);
+    out.spaced(stats.dispatches);
+    out.spaced(stats.preemptions);
+    out.spaced(stats.yields);
 }
 
 // From arrival to first run and to finish.
-fn put_asked(out: &mut [u8], at: usize, t: ThreadInfo) -> usize
-    requires { at ≤ length out.old }
-    ensures { result ≤ length out.old }
+fn put_asked(out: &mut Stream, t: ThreadInfo)
+    requires { Within out.old }
+    ensures { Grown out.old out.new }
 {
-    let a = put_text(out, at, b" asked");
-    let b = put_tick(out, a, response(t));
-    let c = put_tick(out, b, turnaround(t));
-    put_text(out, c, b"\n")
+    out.text(b" asked");
+    out.tick(response(t));
+    out.tick(turnaround(t));
+    out.text(b"\n");
 }
 
-fn put_thread(out: &mut [u8], at: usize, t: ThreadInfo) -> usize
-    requires { at ≤ length out.old }
-    ensures { result ≤ length out.old }
+fn put_thread(out: &mut Stream, t: ThreadInfo)
+    requires { Within out.old }
+    ensures { Grown out.old out.new }
 {
-    let a = put_identity(out, at, t);
-    let b = put_standing(out, a, t);
-    let c = put_last(out, b, t);
-    let d = put_times(out, c, t.stats);
-    let e = put_counts(out, d, t.stats);
-    put_asked(out, e, t)
+    put_identity(out, t);
+    put_standing(out, t);
+    put_last(out, t);
+    put_times(out, t.stats);
+    put_counts(out, t.stats);
+    put_asked(out, t);
 }
 
 pub fn print_thread(t: ThreadInfo) {
-    let mut out = [0u8; 512];
-    let n = put_thread(&mut out, 0, t);
-    io::write_all(STDOUT_FILENO, &out[..n]);
+    let mut buffer = [0u8; 512];
+    let mut out = Stream {
+        out: &mut buffer,
+        at: 0,
+    };
+    put_thread(&mut out, t);
+    out.write_out();
 }

@@ -1,7 +1,7 @@
 // The state without thread records and rings: settings, queue, cores, and the questions about them.
-ghost use Rattle.std.specs.Prelude.{◌≤◌, ◌<◌, ◌^◌, length};
+ghost use Rattle.std.specs.Prelude.{◌<◌};
 ghost use Rattle.state.specs.Asked.{Askable, Answers, nothing, the_queue};
-ghost use Rattle.trace_text.specs.Streams.{Streamed};
+ghost use Rattle.trace_text.specs.Streams.{Within, Written, Grown};
 ghost use Rattle.trace_state.specs.Asked.{left_text, running_text, places_text, asked_text};
 
 use model::{CoreId, CoreState, CoreTicks, Tid};
@@ -10,210 +10,197 @@ use questions::lists::ready_queue;
 use questions::next_tid;
 use settings::SchedConfig;
 use state::Sched;
-use text::STDOUT_FILENO;
-use trace_text::out::{put_bit, put_core, put_policy, put_spaced, put_text, put_tid};
+use trace_text::out::Stream;
 
-fn put_clock(out: &mut [u8], at: usize, s: Sched) -> usize
-    requires { at ≤ length out.old }
-    ensures { result ≤ length out.old }
+fn put_clock(out: &mut Stream, s: Sched)
+    requires { Within out.old }
+    ensures { Grown out.old out.new }
 {
     let tick = s.now;
-    let a = put_text(out, at, b"state");
-    let b = put_spaced(out, a, tick.0);
-    let c = put_text(out, b, b" ");
-    let d = put_bit(out, c, s.closed);
-    put_spaced(out, d, s.context_switches)
+    out.text(b"state");
+    out.spaced(tick.0);
+    out.text(b" ");
+    out.bit(s.closed);
+    out.spaced(s.context_switches);
 }
 
-fn put_config(out: &mut [u8], at: usize, config: SchedConfig) -> usize
-    requires { at ≤ length out.old }
-    ensures { result ≤ length out.old }
+fn put_config(out: &mut Stream, config: SchedConfig)
+    requires { Within out.old }
+    ensures { Grown out.old out.new }
 {
-    let a = put_policy(out, at, config.policy);
-    let b = put_spaced(out, a, config.quantum as u64);
-    let c = put_spaced(out, b, config.switch_cost as u64);
-    put_text(out, c, b"\n")
+    out.policy(config.policy);
+    out.spaced(config.quantum as u64);
+    out.spaced(config.switch_cost as u64);
+    out.text(b"\n");
 }
 
-fn put_queue(out: &mut [u8], at: usize, queue: &[u32]) -> usize
-    requires { at ≤ length out.old }
-    ensures { result ≤ length out.old }
+fn put_queue(out: &mut Stream, queue: &[u32])
+    requires { Within out.old }
+    ensures { Grown out.old out.new }
 {
-    let mut to = put_text(out, at, b"queue");
+    out.text(b"queue");
     for tid in queue {
-        to = put_spaced(out, to, *tid as u64);
+        out.spaced(*tid as u64);
     }
-    put_text(out, to, b"\n")
+    out.text(b"\n");
 }
 
-fn put_state(out: &mut [u8], at: usize, state: CoreState) -> usize
-    requires { at ≤ length out.old }
-    ensures { result ≤ length out.old }
+fn put_state(out: &mut Stream, state: CoreState)
+    requires { Within out.old }
+    ensures { Grown out.old out.new }
 {
     match state {
-        CoreState::Idle => put_text(out, at, b" idle"),
+        CoreState::Idle => out.text(b" idle"),
         CoreState::Switching { tid, left } => {
-            let a = put_text(out, at, b" switching");
-            let b = put_spaced(out, a, tid.0 as u64);
-            put_spaced(out, b, left as u64)
+            out.text(b" switching");
+            out.spaced(tid.0 as u64);
+            out.spaced(left as u64);
         }
         CoreState::Running { tid, slice } => {
-            let a = put_text(out, at, b" running");
-            let b = put_spaced(out, a, tid.0 as u64);
-            put_spaced(out, b, slice as u64)
+            out.text(b" running");
+            out.spaced(tid.0 as u64);
+            out.spaced(slice as u64);
         }
     }
 }
 
-fn put_marks(out: &mut [u8], at: usize, s: Sched, i: usize) -> usize
-    requires { (at ≤ length out.old) × (i < 8) }
-    ensures { result ≤ length out.old }
+fn put_marks(out: &mut Stream, s: Sched, i: usize)
+    requires { Within out.old × (i < 8) }
+    ensures { Grown out.old out.new }
 {
-    let a = put_text(out, at, b" marks ");
-    let b = put_bit(out, a, s.exits[i]);
-    let c = put_bit(out, b, s.blocks[i]);
-    let d = put_bit(out, c, s.yields[i]);
-    put_bit(out, d, s.progressed[i])
+    out.text(b" marks ");
+    out.bit(s.marks.exits[i]);
+    out.bit(s.marks.blocks[i]);
+    out.bit(s.marks.yields[i]);
+    out.bit(s.marks.progressed[i]);
 }
 
-fn put_ticks(out: &mut [u8], at: usize, ticks: CoreTicks) -> usize
-    requires { at ≤ length out.old }
-    ensures { result ≤ length out.old }
+fn put_ticks(out: &mut Stream, ticks: CoreTicks)
+    requires { Within out.old }
+    ensures { Grown out.old out.new }
 {
-    let a = put_text(out, at, b" ticks");
-    let b = put_spaced(out, a, ticks.busy as u64);
-    let c = put_spaced(out, b, ticks.switching as u64);
-    put_spaced(out, c, ticks.idle as u64)
+    out.text(b" ticks");
+    out.spaced(ticks.busy as u64);
+    out.spaced(ticks.switching as u64);
+    out.spaced(ticks.idle as u64);
 }
 
-fn put_found_ticks(out: &mut [u8], at: usize, found: Option<CoreTicks>) -> usize
-    requires { at ≤ length out.old }
-    ensures { result ≤ length out.old }
-{
-    match found {
-        None => at,
-        Some(ticks) => put_ticks(out, at, ticks),
-    }
-}
-
-fn put_one_core(out: &mut [u8], at: usize, s: Sched, i: usize) -> usize
-    requires { (at ≤ length out.old) × (i < s.cores) × Askable s nothing }
-    ensures { result ≤ length out.old }
+fn put_one_core(out: &mut Stream, s: Sched, i: usize)
+    requires { Within out.old × (i < s.cores) × Askable s nothing }
+    ensures { Grown out.old out.new }
 {
     let core = CoreId(i as u32);
-    let state = core_state(s, core);
-    let ticks = core_ticks(s, core);
-    let a = put_text(out, at, b"core");
-    let b = put_spaced(out, a, i as u64);
-    let c = put_state(out, b, state);
-    let d = put_marks(out, c, s, i);
-    let e = put_found_ticks(out, d, ticks);
-    put_text(out, e, b"\n")
+    out.text(b"core");
+    out.spaced(i as u64);
+    put_state(out, core_state(s, core));
+    put_marks(out, s, i);
+    if let Some(ticks) = core_ticks(s, core) {
+        put_ticks(out, ticks);
+    }
+    out.text(b"\n");
 }
 
-fn put_cores(out: &mut [u8], at: usize, s: Sched) -> usize
-    requires { (at ≤ length out.old) × Askable s nothing }
-    ensures { result ≤ length out.old }
+fn put_cores(out: &mut Stream, s: Sched)
+    requires { Within out.old × Askable s nothing }
+    ensures { Grown out.old out.new }
 {
-    let mut to = at;
     for i in 0..s.cores {
-        to = put_one_core(out, to, s, i);
+        put_one_core(out, s, i);
     }
-    to
 }
 
 // Settings, queue and cores.
 pub fn print_front(s: Sched, queue: &[u32])
     requires { Askable s (the_queue queue.now) }
 {
-    let mut out = io::buffer();
-    let a = put_clock(&mut out, 0, s);
-    let b = put_config(&mut out, a, s.config);
-    let c = put_queue(&mut out, b, ready_queue(s, queue));
-    let n = put_cores(&mut out, c, s);
-    io::write_all(STDOUT_FILENO, &out[..n]);
+    let mut buffer = io::buffer();
+    let mut out = Stream {
+        out: &mut buffer,
+        at: 0,
+    };
+    put_clock(&mut out, s);
+    put_config(&mut out, s.config);
+    put_queue(&mut out, ready_queue(s, queue));
+    put_cores(&mut out, s);
+    out.write_out();
 }
 
 // What runs on each core, and on one more, which there is not.
-fn put_running(out: &mut [u8], at: usize, s: Sched) -> usize
-    requires { Askable s nothing × (at ≤ length out.old) }
-    ensures { Answers s nothing (λ d. Streamed out.old at (running_text d) out.new result) }
+fn put_running(out: &mut Stream, s: Sched)
+    requires { Askable s nothing × Within out.old }
+    ensures said { Answers s nothing (λ d. Written out.old (running_text d) out.new) }
+    ensures grown { Grown out.old out.new }
 {
-    let mut to = at;
     for i in 0..s.cores + 1 {
         let core = CoreId(i as u32);
-        let a = put_tid(out, to, running_on(s, core));
-        to = put_tid(out, a, thread_on(s, core));
+        out.tid(running_on(s, core));
+        out.tid(thread_on(s, core));
     }
-    to
 }
 
 // The core of each thread, and of one more, which there is not.
-fn put_places(out: &mut [u8], at: usize, s: Sched) -> usize
-    requires { Askable s nothing × (at ≤ length out.old) }
-    ensures { Answers s nothing (λ d. Streamed out.old at (places_text d) out.new result) }
+fn put_places(out: &mut Stream, s: Sched)
+    requires { Askable s nothing × Within out.old }
+    ensures said { Answers s nothing (λ d. Written out.old (places_text d) out.new) }
+    ensures grown { Grown out.old out.new }
 {
-    let mut to = at;
     for i in 0..s.threads + 1 {
-        to = put_core(out, to, core_of(s, Tid(i as u32)));
+        out.core(core_of(s, Tid(i as u32)));
     }
-    to
 }
 
 // Whether threads are left, whether one of them can run, and whether they are deadlocked.
-fn put_left(out: &mut [u8], at: usize, live: bool, runnable: bool, deadlocked: bool) -> usize
-    requires { at ≤ length out.old }
-    ensures { Streamed out.old at (left_text live runnable deadlocked) out.new result }
+#[derive(Clone, Copy)]
+pub struct Left {
+    pub live: bool,
+    pub runnable: bool,
+    pub deadlocked: bool,
+}
+
+fn put_left(out: &mut Stream, left: Left)
+    requires { Within out.old }
+    ensures { Written out.old (left_text left.live left.runnable left.deadlocked) out.new }
 {
-    let a = put_text(out, at, b" ");
-    let b = put_bit(out, a, live);
-    let c = put_bit(out, b, runnable);
-    put_bit(out, c, deadlocked)
+    out.text(b" ");
+    out.bit(left.live);
+    out.bit(left.runnable);
+    out.bit(left.deadlocked);
 }
 
 // The questions that are no field of the state. What is left to run is asked of the thread records, which are not here.
-pub fn put_asked(
-    out: &mut [u8],
-    at: usize,
-    s: Sched,
-    live: bool,
-    runnable: bool,
-    deadlocked: bool,
-) -> usize
-    requires { Askable s nothing × (at ≤ length out.old) }
-    ensures { Answers s nothing (λ d. Streamed out.old at (asked_text d live runnable deadlocked) out.new result) }
+pub fn put_asked(out: &mut Stream, s: Sched, left: Left)
+    requires { Askable s nothing × Within out.old }
+    ensures said { Answers s nothing (λ d. Written out.old (asked_text d left.live left.runnable left.deadlocked) out.new) }
+    ensures grown { Grown out.old out.new }
 {
     let next = next_tid(s);
-    let a = put_text(out, at, b"asked");
-    let b = put_spaced(out, a, next.0 as u64);
-    let c = put_left(out, b, live, runnable, deadlocked);
-    let d = put_running(out, c, s);
-    let e = put_places(out, d, s);
-    put_text(out, e, b"\n")
+    out.text(b"asked");
+    out.spaced(next.0 as u64);
+    put_left(out, left);
+    put_running(out, s);
+    put_places(out, s);
+    out.text(b"\n");
 }
 
-fn put_figures(
-    out: &mut [u8],
-    at: usize,
-    waiting: u64,
-    response: u64,
-    turnaround: u64,
-    utilization: u64,
-) -> usize
-    requires { at ≤ length out.old }
-    ensures { result ≤ length out.old }
+fn put_figures(out: &mut Stream, waiting: u64, response: u64, turnaround: u64, utilization: u64)
+    requires { Within out.old }
+    ensures { Grown out.old out.new }
 {
-    let a = put_text(out, at, b"figures");
-    let b = put_spaced(out, a, waiting);
-    let c = put_spaced(out, b, response);
-    let d = put_spaced(out, c, turnaround);
-    let e = put_spaced(out, d, utilization);
-    put_text(out, e, b"\n")
+    out.text(b"figures");
+    out.spaced(waiting);
+    out.spaced(response);
+    out.spaced(turnaround);
+    out.spaced(utilization);
+    out.text(b"\n");
 }
 
 // The bit patterns of the summary's figures.
 pub fn print_figures(waiting: u64, response: u64, turnaround: u64, utilization: u64) {
-    let mut out = [0u8; 256];
-    let n = put_figures(&mut out, 0, waiting, response, turnaround, utilization);
-    io::write_all(STDOUT_FILENO, &out[..n]);
+    let mut buffer = [0u8; 256];
+    let mut out = Stream {
+        out: &mut buffer,
+        at: 0,
+    };
+    put_figures(&mut out, waiting, response, turnaround, utilization);
+    out.write_out();
 }

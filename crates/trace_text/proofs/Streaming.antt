@@ -6,10 +6,12 @@ use native.Mathlib.Omega.{arith}
 use native.Mathlib.Numerals.{add-one}
 use lib.ListN.{length, take, length-append}
 use lib.Seq.{paste-zero}
-use Rattle.text.specs.Buffers.{Put}
+use Rattle.std.specs.Borrow.{MutBor}
+use Rattle.text.specs.Buffers.{Put, StillLent}
 use Rattle.text.proofs.Puts.{put_front, put-length, put_then}
 use Rattle.trace_text.specs.Texts.{texts_below}
-use Rattle.trace_text.specs.Streams.{Streamed, Placed}
+use Rattle.trace_text.specs.Streams.{Streamed, Placed, Within, Written, WrittenWhole}
+use Rattle.trace_text.specs.declared.out.Stream.{Stream}
 
 pub streamed-put : {b : List ℕ} {at : ℕ} {t b' : List ℕ} {r : ℕ} → at + length t ≤ length b → Put b at t b' r → Streamed b at t b' r
 streamed-put {b} {at} {t} {b'} {r} h p = record {
@@ -25,10 +27,6 @@ pub streamed-none : (b : List ℕ) (at : ℕ) → at ≤ length b → Streamed b
 streamed-none b at h =
     let z : at + 0 ≡ at = omega arith in
     streamed-put (omega arith) (record { bytes = paste-zero b at []; end = sym z })
-
--- the same text, said otherwise
-pub streamed-same : {b : List ℕ} {at : ℕ} {t t' b' : List ℕ} {r : ℕ} → t ≡ t' → Streamed b at t b' r → Streamed b at t' b' r
-streamed-same e s = rw e at s
 
 -- one text, and then another
 infixl 60 ◌then◌
@@ -82,3 +80,28 @@ placed_first {b} {at} {t} {b'} {r} k p =
       };
       first = λ g n. s.fits (omega arith);
     }
+
+---- the same of a stream
+
+still-lent-both : {a b c : MutBor (List ℕ)} → StillLent a b → StillLent b c → StillLent a c
+still-lent-both s t = record { same = t.same ∙ s.same; long = t.long ∙ s.long }
+
+pub whole : {old new : Stream} {t : List ℕ} → WrittenWhole old t new → Written old t new
+whole w = record { streamed = w.placed.streamed; lent = w.lent }
+
+-- nothing yet
+pub written-none : (s : Stream) → Within s → Written s [] s
+written-none s h = record { streamed = streamed-none _ _ h; lent = record { same = refl; long = refl } }
+
+-- the same text, said otherwise
+pub written-same : {old new : Stream} {t t' : List ℕ} → t ≡ t' → Written old t new → Written old t' new
+written-same e w = rw e at w
+
+-- one text, and then another
+infixl 60 ◌and◌
+pub ◌and◌ : {a b c : Stream} {t u : List ℕ} → Written a t b → Written b u c → Written a (t ++ u) c
+◌and◌ s w = record { streamed = s.streamed then w.streamed; lent = still-lent-both s.lent w.lent }
+
+-- one more of a loop's texts
+pub written-next : {a b c : Stream} (f : ℕ → List ℕ) (i : ℕ) → Written a (texts_below f i) b → Written b (f i) c → Written a (texts_below f (i + 1)) c
+written-next f i s w = record { streamed = streamed-next f i s.streamed w.streamed; lent = still-lent-both s.lent w.lent }

@@ -1,5 +1,5 @@
 use Rattle.trace_read.proofs.Dividing.{Divided}
 use Rattle.trace_read.proofs.lines.fields.Given as goal
 
-abbrev pub invariant-loop-k : goal.invariant-loop-k
-invariant-loop-k l = Divided l.line l.all l.at l.k
+abbrev pub invariant-loop-place : goal.invariant-loop-place
+invariant-loop-place l = Divided l.line l.place-items l.rest.done l.rest.rest.now l.place-index

@@ -6,4 +6,4 @@ use Rattle.trace_read.proofs.lines.read_count.Goals as goal
 
 pub returns : goal.returns
 returns c =
-    read-front (λ l. c.number.result ≡ count_of l) _ c.read_bytes-n.result (omega arith) c.read_bytes-n.ensures.1 (count-said _ c.read_number.result c.number.result c.read_number.ensures c.number.ensures)
+    read-front (λ l. c.unwrap_or.result ≡ count_of l) _ c.read_bytes-n.result (omega arith) c.read_bytes-n.ensures.1 (count-said _ c.read_number.result c.unwrap_or.result c.read_number.ensures c.unwrap_or.ensures)

@@ -1,5 +1,5 @@
-use Rattle.std.proofs.Common.{◌≤◌, length}
+use Rattle.trace_text.specs.Streams.{Grown}
 use Rattle.trace_records.proofs.history.put_events.Given as goal
 
 abbrev pub invariant-loop-k : goal.invariant-loop-k
-invariant-loop-k l = l.to ≤ length l.out
+invariant-loop-k l = Grown l.initial.out l.out

@@ -1,5 +1,5 @@
-use Rattle.std.proofs.Common.{◌≤◌, length}
+use Rattle.trace_text.specs.Streams.{Grown}
 use Rattle.trace_state.proofs.cores.put_cores.Given as goal
 
 abbrev pub invariant-loop-i : goal.invariant-loop-i
-invariant-loop-i l = l.to ≤ length l.out
+invariant-loop-i l = Grown l.initial.out l.out
