@@ -22,7 +22,7 @@ use Rattle.rings.specs.Ring.{capacity}
 use Rattle.rings.specs.Timeline.{segments_in}
 use Rattle.model.specs.declared.ThreadInfo.{ThreadInfo}
 use Rattle.state.specs.declared.Sched.{Sched}
-use Rattle.state.specs.State.{firsts, states_of, core_from, meant_at, no_ticks, no_pos, lane_words, log_words}
+use Rattle.state.specs.State.{firsts, states_of, core_from, board_of, meant_at, no_ticks, no_pos, lane_words, log_words}
 use Rattle.accounts.specs.Charging.{TicksCharged, LanesCharged}
 use Rattle.accounts.specs.Log.{moved_log, woken_log}
 
@@ -104,7 +104,7 @@ module _ (s : Sched) (ts : List ThreadInfo) (qs ls ws : List ℕ) where
       (tick : ℕ) (new : List Counters.CoreTicks) → TicksCharged s.cores (states_of s.states) s.ticks new
       → firsts (λ i. core_ticks_meant (get_or new i no_ticks)) s.cores ≡ (charge s.capacities.segments tick (meant_at s ts qs ls ws).cores (meant_at s ts qs ls ws).accounts).ticks
   unfolding charge meant_at core_from
-  meant-ticks tick new h = charged-ticks s.cores (states_of s.states) (core_from (states_of s.states) s.exits s.blocks s.yields s.progressed) (λ i l. refl) s.ticks new h
+  meant-ticks tick new h = charged-ticks s.cores (states_of s.states) (board_of s) (λ i l. refl) s.ticks new h
 
   pub meant-timelines :
       (tick : ℕ) (ws' : List ℕ) (pos' : List RingPos) → LanesCharged s.capacities.segments s.cores tick (states_of s.states) ws ws' s.lanes pos'
@@ -112,7 +112,7 @@ module _ (s : Sched) (ts : List ThreadInfo) (qs ls ws : List ℕ) where
       ≡ (charge s.capacities.segments tick (meant_at s ts qs ls ws).cores (meant_at s ts qs ls ws).accounts).timelines
   unfolding charge meant_at core_from
   meant-timelines tick ws' pos' h =
-      charged-timelines s.cores (states_of s.states) (core_from (states_of s.states) s.exits s.blocks s.yields s.progressed) (λ i l. refl) s.capacities.segments tick ws ws' s.lanes pos' h
+      charged-timelines s.cores (states_of s.states) (board_of s) (λ i l. refl) s.capacities.segments tick ws ws' s.lanes pos' h
 
 ---- the log's ring holds as many events as the capacity says
 

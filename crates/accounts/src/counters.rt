@@ -7,7 +7,7 @@ ghost use Rattle.state.specs.State.{no_ticks};
 ghost use Rattle.accounts.specs.Charging.{TicksCharged};
 
 use model::{CoreState, CoreTicks};
-use ticks::charged_ticks;
+use ticks::charge_core;
 
 // "Charging a tick changes one core's three counters and nothing beside them in the step that counts this core"
 pub fn charge_ticks(ticks: [CoreTicks; 8], states: [CoreState; 8], n: usize) -> [CoreTicks; 8]
@@ -16,9 +16,7 @@ pub fn charge_ticks(ticks: [CoreTicks; 8], states: [CoreState; 8], n: usize) -> 
 {
     let mut charged = ticks;
     for i in 0..n {
-        let t = charged[i];
-        let u = charged_ticks(t, states[i]);
-        charged[i] = u;
+        charge_core(&mut charged[i], states[i]);
     }
     charged
 }

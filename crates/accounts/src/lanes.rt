@@ -1,27 +1,17 @@
 // The cores' timelines: behind the room for the moves, one ring of segments after the other.
-ghost use Rattle.std.specs.Prelude.{◌≡◌, ◌&&◌, ℕ, ◌+◌, ◌<◌, ◌≤◌, eqb, length, get_or};
+ghost use Rattle.std.specs.Prelude.{ℕ, ◌+◌, ◌<◌, ◌≤◌, length, get_or};
 ghost use Rattle.model.specs.Accounting.{lane_of};
-ghost use Rattle.model.specs.Reading.{lane_meant, core_state_meant};
+ghost use Rattle.model.specs.Reading.{core_state_meant};
 ghost use Rattle.rings.specs.Ring.{capacity, RingOK};
 ghost use Rattle.state.specs.State.{no_pos, lane_start, lane_words};
 ghost use Rattle.accounts.specs.Charging.{part, LaneCharged, Outside, LanesCharged};
 
-use model::{CoreState, Lane, Tick};
+use model::{CoreState, Tick};
 use rings::RingPos;
 use rings::timeline::charge_lane;
 
 // The words before the timelines, for the moves of a tick end.
 const MOVE_ROOM: usize = 80;
-
-pub fn lane_of(s: CoreState) -> Lane
-    ensures { lane_meant result ≡ lane_of (core_state_meant s) }
-{
-    match s {
-        CoreState::Idle => Lane::Idle,
-        CoreState::Switching { tid, left: _ } => Lane::Switch(tid),
-        CoreState::Running { tid, slice: _ } => Lane::Run(tid),
-    }
-}
 
 // One core's timeline, in the words from `start` up to `end`.
 pub fn charge_part(
@@ -36,17 +26,7 @@ pub fn charge_part(
     ensures charged { LaneCharged (capacity (part start end lanes.old)) tick.0 (lane_of (core_state_meant state)) (part start end lanes.old) (part start end lanes.new) pos result }
     ensures outside { Outside start end lanes.old lanes.new }
 {
-    let lane = lane_of(state);
-    charge_lane(&mut lanes[start..end], pos, tick, lane)
-}
-
-fn is_same(p: RingPos, q: RingPos) -> bool
-    ensures { result ≡ (eqb p.last q.last && eqb p.len q.len) }
-{
-    if p.last != q.last {
-        return false;
-    }
-    p.len == q.len
+    charge_lane(&mut lanes[start..end], pos, tick, state.lane())
 }
 
 // "A segment grows if lane and end match, otherwise a new one begins": each of the first n cores' timelines, charged with this tick.
@@ -70,7 +50,7 @@ pub fn charge_lanes(
         let q = charge_part(lanes, start, end, p, tick, states[i]);
         start = end;
         // A segment that grows leaves the ring's position as it was, and a store that is not needed costs time.
-        if !is_same(p, q) {
+        if p != q {
             charged[i] = q;
         }
     }

@@ -1,8 +1,8 @@
 -- A ladder of early returns against a chain of checks: a test that holds gives its number, one that fails leaves it to the rest.
 use Prim.Native.Nat.{ℕ}
-use mathlib.Core.Path.{◌≡◌, refl, sym, ap, ◌∙◌}
+use mathlib.Core.Path.{◌≡◌}
 use mathlib.Core.Bool.{Bool, true, false, ◌||◌}
-use mathlib.Core.Option.{Option, none, some}
+use mathlib.Core.Option.{Option, some}
 use Rattle.model.specs.Calls.{check}
 
 pub hit : (n : ℕ) (b : Bool) (r : Option ℕ) → b ≡ true → some n ≡ check n b r

@@ -1,8 +1,8 @@
 -- What the checks read off the program's state is the definition's `refusal` of the state that it stands for.
-use Prim.Native.Nat.{ℕ, ◌<◌, ◌≤◌}
-use mathlib.Core.Path.{◌≡◌, refl, sym, ap, ◌∙◌, subst}
+use Prim.Native.Nat.{ℕ, ◌≤◌}
+use mathlib.Core.Path.{◌≡◌, refl, ap, ◌∙◌}
 use mathlib.Core.Bool.{Bool, true, false, ◌||◌}
-use mathlib.Core.Option.{Option, none, some}
+use mathlib.Core.Option.{Option, none}
 use mathlib.Core.List.{List, map}
 use lib.Dec.{leb}
 use lib.ListN.{length, take, get_or, get_elem?, length-map}
@@ -14,7 +14,7 @@ use Rattle.model.specs.Types.{Core, State}
 use Rattle.model.specs.Calls.{check, refusal, no_core, leaving, core_at, core_state_of, limit_now, spawn, exit, join, retired, yield, priority, timing, tick, close, tid_on, yields_of}
 use Rattle.model.specs.Reading.{core_state_meant, thread_meant}
 use Rattle.state.specs.declared.Sched.{Sched}
-use Rattle.state.specs.State.{firsts, core_from, states_of, meant_at, Valid}
+use Rattle.state.specs.State.{core_from, board_of, states_of, meant_at}
 use Rattle.state.proofs.Firsts.{length-firsts, core_at-firsts}
 use Rattle.checks.specs.Check.{stops, core_refusal, spawn_refusal, tick_refusal, retired_refusal, priority_refusal, timing_refusal}
 
@@ -26,7 +26,7 @@ module _ (s : Sched) (ts : List ThreadInfo) (qs ls ws : List ℕ) where
   M = meant_at s ts qs ls ws
 
   abbrev own : ℕ → Core
-  own = core_from (states_of s.states) s.exits s.blocks s.yields s.progressed
+  own = board_of s
 
   no-core : (i : ℕ) → no_core M i ≡ leb s.cores i
   unfolding no_core meant_at
@@ -42,11 +42,11 @@ module _ (s : Sched) (ts : List ThreadInfo) (qs ls ws : List ℕ) where
   chain i running rest rest' h = ap (λ (b : Bool). check 4 b (check 11 M.closed (check 12 (leaving (core_at M.cores i)) (check 13 (stops running (core_at M.cores i).state) rest)))) (no-core i) ∙ go (leb s.cores i) refl
     where
       go : (b : Bool) → leb s.cores i ≡ b → check 4 b (check 11 M.closed (check 12 (leaving (core_at M.cores i)) (check 13 (stops running (core_at M.cores i).state) rest)))
-          ≡ check 4 b (check 11 s.closed (check 12 (get_or s.exits i false || get_or s.blocks i false) (check 13 (stops running (core_state_meant (get_or (states_of s.states) i CoreStateCases.Idle))) rest')))
+          ≡ check 4 b (check 11 s.closed (check 12 (get_or s.marks.exits i false || get_or s.marks.blocks i false) (check 13 (stops running (core_state_meant (get_or (states_of s.states) i CoreStateCases.Idle))) rest')))
       go true e = refl
       go false e =
           ap (λ (c : Core). check 11 M.closed (check 12 (leaving c) (check 13 (stops running c.state) rest))) (core-own i e)
-          ∙ ap (λ (r : Option ℕ). check 11 s.closed (check 12 (get_or s.exits i false || get_or s.blocks i false) (check 13 (stops running (core_state_meant (get_or (states_of s.states) i CoreStateCases.Idle))) r))) (h e)
+          ∙ ap (λ (r : Option ℕ). check 11 s.closed (check 12 (get_or s.marks.exits i false || get_or s.marks.blocks i false) (check 13 (stops running (core_state_meant (get_or (states_of s.states) i CoreStateCases.Idle))) r))) (h e)
 
   pub exit-refusal : (i : ℕ) → refusal M (exit i) ≡ core_refusal s i false none
   unfolding refusal

@@ -8,6 +8,8 @@ use Rattle.model.specs.Types.{CoreState}
 use Rattle.model.specs.Calls.{check, is_idle, is_running, bad_timing, limit_now}
 use Rattle.model.specs.Reading.{core_state_meant}
 use Rattle.state.specs.declared.Sched.{Sched}
+use Rattle.checks.specs.declared.Needs.{Needs}
+use Rattle.checks.specs.declared.Needs.TheVariants as NeedsCases
 use Rattle.state.specs.State.{states_of}
 
 abbrev pub check_meant : Result Unit Refusal → Option ℕ
@@ -19,10 +21,15 @@ abbrev pub stops : (running : Bool) → CoreState → Bool
 stops true s = not (is_running s)
 stops false s = is_idle s
 
+-- whether a switching core stops the call too, as the program says it
+abbrev pub needs_running : Needs → Bool
+needs_running NeedsCases.Held = false
+needs_running NeedsCases.Running = true
+
 -- 01: "exit 4, 11, 12, 13; join 4, 11, 12, 13", and with a rest: "yield 4, 11, 12, 13, 19", "close 4, 11, 12, 13, 18"
 unfoldable pub core_refusal : Sched → (core : ℕ) → (running : Bool) → Option ℕ → Option ℕ
 core_refusal s i running rest =
-    check 4 (leb s.cores i) (check 11 s.closed (check 12 (get_or s.exits i false || get_or s.blocks i false)
+    check 4 (leb s.cores i) (check 11 s.closed (check 12 (get_or s.marks.exits i false || get_or s.marks.blocks i false)
     (check 13 (stops running (core_state_meant (get_or (states_of s.states) i CoreStateCases.Idle))) rest)))
 
 -- 01: "spawn 11, 17; tick 11, 18"; "retired 4, 11; priority 5, 11"; "`set_timing` 1, 11"

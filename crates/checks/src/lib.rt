@@ -5,7 +5,7 @@
 ghost use Rattle.std.specs.Prelude.{◌≡◌, ◌≤◌};
 ghost use Rattle.std.proofs.Math.Option.{none};
 ghost use Rattle.model.specs.Reading.{core_state_meant};
-ghost use Rattle.checks.specs.Check.{check_meant, stops, core_refusal, spawn_refusal, tick_refusal, retired_refusal, priority_refusal, timing_refusal};
+ghost use Rattle.checks.specs.Check.{check_meant, stops, needs_running, core_refusal, spawn_refusal, tick_refusal, retired_refusal, priority_refusal, timing_refusal};
 
 use model::{CoreId, CoreState, Tid};
 use settings::{Refusal, SchedConfig};
@@ -84,20 +84,29 @@ pub fn check_timing(s: Sched, quantum: u32, switch_cost: u32) -> Result<(), Refu
     Ok(())
 }
 
-// Whether a core's state stops a call: idle always does, switching where the call needs a running core.
-pub fn stopped(state: CoreState, running: bool) -> bool
-    ensures { result ≡ stops running (core_state_meant state) }
-{
-    if running {
-        return !state.is_running();
-    }
-    state.is_idle()
+// What a call asks of its core: that it holds a thread, running or switching in, or that it runs one.
+#[derive(Clone, Copy, PartialEq, Eq, Debug)]
+pub enum Needs {
+    Held,
+    Running,
 }
 
-// exit (running false) and join (running true): 4, 11, 12, 13
-pub fn check_core(s: Sched, core: CoreId, running: bool) -> Result<(), Refusal>
+impl Needs {
+    // Whether a core in this state stops the call.
+    pub fn is_stopped_by(self, state: CoreState) -> bool
+        ensures { result ≡ stops (needs_running self) (core_state_meant state) }
+    {
+        match self {
+            Needs::Held => state.is_idle(),
+            Needs::Running => !state.is_running(),
+        }
+    }
+}
+
+// exit and close (held), join and yield (running): 4, 11, 12, 13
+pub fn check_core(s: Sched, core: CoreId, needs: Needs) -> Result<(), Refusal>
     requires { s.cores ≤ 8 }
-    ensures { check_meant result ≡ core_refusal s core.0 running none }
+    ensures { check_meant result ≡ core_refusal s core.0 (needs_running needs) none }
 {
     let i = core.0 as usize;
     if s.cores <= i {
@@ -106,13 +115,13 @@ pub fn check_core(s: Sched, core: CoreId, running: bool) -> Result<(), Refusal>
     if s.closed {
         return Err(Refusal::Closed);
     }
-    if s.exits[i] {
+    if s.marks.exits[i] {
         return Err(Refusal::Leaving);
     }
-    if s.blocks[i] {
+    if s.marks.blocks[i] {
         return Err(Refusal::Leaving);
     }
-    if stopped(state_at(s.states, i), running) {
+    if needs.is_stopped_by(state_at(s.states, i)) {
         return Err(Refusal::NotRunning);
     }
     Ok(())

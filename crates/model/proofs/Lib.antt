@@ -7,3 +7,4 @@ pub mod ThreadStates
 pub mod Placement
 pub mod Bounded
 pub mod Figures
+pub mod Back

@@ -1,5 +1,5 @@
 -- Which part of the definition a value of the program's types stands for. Contracts read the program's values through these.
-use Rattle.std.specs.Prelude.{ℕ, zero, suc, List, map, take, Some, None, Result, Ok, Err}
+use Rattle.std.specs.Prelude.{ℕ, List, map, take, Some, None, Result, Ok, Err}
 use Rattle.std.specs.Prelude as Std
 use Rattle.std.proofs.Math.Option.{Option, none, some}
 use Rattle.settings.specs.Reading.{policy_meant, refusal_number}
@@ -25,7 +25,6 @@ use Rattle.model.specs.declared.SchedEventKind.TheVariants as EventCases
 use Rattle.model.specs.declared.SchedEvent.{SchedEvent}
 use Rattle.model.specs.declared.SwitchOut.{SwitchOut}
 use Rattle.model.specs.declared.Switch as Switches
-use Rattle.model.specs.declared.SwitchWords.{SwitchWords}
 use Rattle.model.specs.declared.JoinOutcome as JoinOutcomes
 use Rattle.model.specs.declared.JoinOutcome.TheVariants as JoinCases
 use Rattle.model.specs.Types.{CoreState, Idle, Switching, Running, LeaveReason, Exit, Block, Yield, Quantum, Preempt, Forced, ThreadState, Ready, Exited, OnCore, Blocked, LastLeave, Last, Times, Counts, ThreadRecord, CoreTicks, Lane, IdleLane, SwitchLane, RunLane, Segment}
@@ -128,26 +127,9 @@ option_out_meant (Some out) = some (record { tid = out.tid.0; reason = reason_me
 abbrev pub switch_meant : Switches.Switch → SwitchEntry
 switch_meant e = record { core = e.core.0; out = option_out_meant e.out; inn = option_tid_meant e.inn }
 
--- the same in numbers: who leaves, for which reason, and who comes
-abbrev pub out_from : (reason tid : ℕ) → Option Out
-out_from zero t = none
-out_from (suc zero) t = some (record { tid = t; reason = Exit })
-out_from (suc (suc zero)) t = some (record { tid = t; reason = Block })
-out_from (suc (suc (suc zero))) t = some (record { tid = t; reason = Yield })
-out_from (suc (suc (suc (suc zero)))) t = some (record { tid = t; reason = Quantum })
-out_from (suc (suc (suc (suc (suc zero))))) t = some (record { tid = t; reason = Preempt })
-out_from (suc (suc (suc (suc (suc (suc n)))))) t = some (record { tid = t; reason = Forced })
-
-abbrev pub inn_from : (taken tid : ℕ) → Option ℕ
-inn_from zero t = none
-inn_from (suc n) t = some t
-
-abbrev pub switch_words_meant : SwitchWords → SwitchEntry
-switch_words_meant words = record { core = words.core.0; out = out_from words.reason words.left.0; inn = inn_from words.taken words.came.0 }
-
 -- a switch list in the front of an array
-abbrev pub switches_meant : List SwitchWords → (count : ℕ) → List SwitchEntry
-switches_meant entries count = map switch_words_meant (take count entries)
+abbrev pub switches_meant : List Switches.Switch → (count : ℕ) → List SwitchEntry
+switches_meant entries count = map switch_meant (take count entries)
 
 ---- answers
 
@@ -169,6 +151,27 @@ join_answer_meant (Ok o) = joined (join_meant o)
 join_answer_meant (Err refusal) = refused (refusal_number refusal)
 
 -- an answer with a switch list: the list counts where the call is taken
-abbrev pub switch_answer_meant : Result Unit Refusal → List SwitchWords → (count : ℕ) → Answer
+abbrev pub switch_answer_meant : Result Unit Refusal → List Switches.Switch → (count : ℕ) → Answer
 switch_answer_meant (Ok _) entries count = switched (switches_meant entries count)
 switch_answer_meant (Err refusal) entries count = refused (refusal_number refusal)
+
+---- and back: the program's value for what it stands for (proofs/Back.antt)
+
+abbrev pub tid_of : Option ℕ → Std.Option Tid
+tid_of none = None
+tid_of (some t) = Some (record { 0 = t })
+
+abbrev pub reason_of : LeaveReason → LeaveReasons.LeaveReason
+reason_of Exit = ReasonCases.Exit
+reason_of Block = ReasonCases.Block
+reason_of Yield = ReasonCases.Yield
+reason_of Quantum = ReasonCases.Quantum
+reason_of Preempt = ReasonCases.Preempt
+reason_of Forced = ReasonCases.Forced
+
+abbrev pub out_of : Option Out → Std.Option SwitchOut
+out_of none = None
+out_of (some o) = Some (record { tid = record { 0 = o.tid }; reason = reason_of o.reason })
+
+abbrev pub switch_of : SwitchEntry → Switches.Switch
+switch_of e = record { core = record { 0 = e.core }; out = out_of e.out; inn = tid_of e.inn }

@@ -134,17 +134,6 @@ pub struct Switch {
     pub inn: Option<Tid>,
 }
 
-// The same in numbers, as a switch list keeps it: `reason` is 0 where nobody leaves, `taken` where nobody comes. A list is copied in each call, and a copy
-// of an enum moves the bytes behind its tag one by one.
-#[derive(Clone, Copy, PartialEq, Eq, Debug)]
-pub struct SwitchWords {
-    pub core: CoreId,
-    pub left: Tid,
-    pub came: Tid,
-    pub reason: u16,
-    pub taken: u16,
-}
-
 // How a `join` turned out.
 #[derive(Clone, Copy, PartialEq, Eq, Debug)]
 pub enum JoinOutcome {

@@ -1,10 +1,9 @@
 -- The cores as the program has them, states and marks in arrays of eight, and a phase over the first n of them.
-use Rattle.std.specs.Prelude.{ℕ, zero, suc, ◌≤◌, ◌≡◌, Bool, false, List, [], ◌∷◌, ◌++◌, take, get_or}
+use Rattle.std.specs.Prelude.{ℕ, zero, suc, ◌≤◌, ◌≡◌, Bool, false, List, [], ◌∷◌, ◌++◌, get_or}
 use Rattle.model.specs.Types.{Core, Move}
 use Rattle.model.specs.Phases.{Pass, Phase, and_then}
 use Rattle.model.specs.declared.CoreState as Program
 use Rattle.model.specs.declared.CoreState.TheVariants
-use Rattle.queue.specs.Words.{moves_in}
 use Rattle.turns.specs.Turns.{core_of}
 use Rattle.turns.specs.declared.Marks.{Marks}
 
@@ -23,10 +22,6 @@ board cs m = core_at cs m.exits m.blocks m.yields m.progressed
 -- all that a phase sees and changes: n cores, the queue, the moves so far
 unfoldable pub pass_of : ℕ → (ℕ → Core) → List ℕ → List Move → Pass
 pass_of n g q m = record { cores = firsts g n; queue = q; moves = m }
-
--- the same from the program's arrays and slices
-abbrev pub observed : ℕ → List Program.CoreState → (exits blocks yields progressed : List Bool) → (queue : List ℕ) (len : ℕ) (out : List ℕ) (count : ℕ) → Pass
-observed n cs ex bl yi pr queue len out count = pass_of n (core_at cs ex bl yi pr) (take len queue) (moves_in out count)
 
 -- a phase over the first n cores: what they, the queue and the moves become; the cores behind them, with their marks, stay as they are
 pub record Ran (f : Phase) (n : ℕ) (g : ℕ → Core) (q : List ℕ) (m : List Move) (g' : ℕ → Core) (q' : List ℕ) (m' : List Move) : Type 0 where

@@ -99,9 +99,8 @@ pub fn preempt_rounds(
         match next_preemption(cs, n, rules.prios, queue.waiting()) {
             None => return cs,
             Some(next) => {
-                let core = next.victim.core;
-                cs[core.0 as usize] = dispatch::swap(
-                    core,
+                cs[next.victim.core.0 as usize] = dispatch::swap(
+                    next.victim.core,
                     next.victim.tid,
                     LeaveReason::Preempt,
                     next.at,

@@ -39,6 +39,7 @@ pub fn most_urgent(prios: &[u32], waiting: &[u32], ceiling: u32) -> Option<usize
 }
 
 // The place of the next thread: the front, or under priority the most urgent up to the ceiling. The ceiling 4,294,967,295 excludes nobody.
+#[tactic(auto, unfolding(model::specs::Phases::choose, model::specs::Phases::eligible))]
 pub fn pick_next(policy: SchedPolicy, prios: &[u32], waiting: &[u32], ceiling: u32) -> Option<usize>
     ensures under { Chosen (choose (policy_meant policy) (prio_of prios.now) (some ceiling) waiting.now) waiting.now result }
     ensures any { ceiling ≡ 4294967295 → Chosen (choose (policy_meant policy) (prio_of prios.now) none waiting.now) waiting.now result }

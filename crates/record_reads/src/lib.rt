@@ -1,4 +1,4 @@
-// What is read of one thread's record by value, and the sums over records. Nothing here holds a reference to a record.
+// What is read of one thread's record by value, and the sums over records.
 // Its public functions are parts for other crates: no host calls them.
 #![tactic(auto)]
 

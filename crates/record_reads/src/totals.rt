@@ -46,15 +46,14 @@ pub fn totaled(n: Totals, t: ThreadInfo) -> Totals
     requires { TotalsFit (add_totals n (thread_meant t)) }
     ensures { result ≡ add_totals n (thread_meant t) }
 {
-    let stats = t.stats;
     Totals {
         threads: n.threads + 1,
-        finished: n.finished + u64::from(stats.finish.is_some()),
-        responded: n.responded + u64::from(stats.first_run.is_some()),
-        preemptions: n.preemptions + stats.preemptions,
-        waiting: n.waiting + stats.ready_ticks,
-        response: n.response + ticks_since(stats.arrival, stats.first_run),
-        turnaround: n.turnaround + ticks_since(stats.arrival, stats.finish),
+        finished: n.finished + u64::from(t.stats.finish.is_some()),
+        responded: n.responded + u64::from(t.stats.first_run.is_some()),
+        preemptions: n.preemptions + t.stats.preemptions,
+        waiting: n.waiting + t.stats.ready_ticks,
+        response: n.response + ticks_since(t.stats.arrival, t.stats.first_run),
+        turnaround: n.turnaround + ticks_since(t.stats.arrival, t.stats.finish),
         live: n.live + u64::from(is_live(t.state)),
         runnable: n.runnable + u64::from(is_runnable(t.state)),
     }

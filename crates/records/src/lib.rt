@@ -1,4 +1,4 @@
-// One thread's record by value: every way in which it changes. Nothing here holds a reference to a record.
+// One thread's record by value: every way in which it changes.
 // Its public functions are parts for other crates: no host calls them.
 #![tactic(auto)]
 

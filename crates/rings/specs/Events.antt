@@ -1,18 +1,19 @@
 -- An event in two words: tick and thread in the first, the kind's code and its number in the second.
-use Rattle.std.specs.Prelude.{ℕ, zero, suc, ◌/◌, ◌%◌, List, map}
+use Rattle.std.specs.Prelude.{ℕ, zero, suc, ◌/◌, ◌%◌, cond, eqb, List, [], ◌∷◌, map}
 use Rattle.std.proofs.Math.Option.{none, some}
 use Rattle.model.specs.Types.{LeaveReason, Exit, Block, Yield, Quantum, Preempt, Forced, EventKind, Spawned, Dispatched, Departed, Woken, Reprioritised, Event}
+use Rattle.model.specs.Reasons.{reason_code}
 use Rattle.rings.specs.declared.RingPos.{RingPos}
 use Rattle.rings.specs.declared.ring.Entry.{Entry}
 use Rattle.rings.specs.Ring.{entries_in}
 
+abbrev pub reason_among : (code : ℕ) → List LeaveReason → LeaveReason
+reason_among code [] = Forced
+reason_among code (r ∷ rs) = cond (eqb (reason_code r) code) r (reason_among code rs)
+
+-- the reason with this code; a code that no reason has is read as the last one's
 abbrev pub reason_from : (code : ℕ) → LeaveReason
-reason_from zero = Exit
-reason_from (suc zero) = Block
-reason_from (suc (suc zero)) = Yield
-reason_from (suc (suc (suc zero))) = Quantum
-reason_from (suc (suc (suc (suc zero)))) = Preempt
-reason_from (suc (suc (suc (suc (suc n))))) = Forced
+reason_from code = reason_among code (Exit ∷ Block ∷ Yield ∷ Quantum ∷ Preempt ∷ [])
 
 -- 0 and 1 a spawn without and with a parent, 2 a dispatch, 3 a wake, 4 a priority change, from 5 on a leave by its reason
 abbrev pub kind_from : (code value : ℕ) → EventKind

@@ -1,5 +1,5 @@
 -- Which part of the definition a value of the program's types stands for.
-use Rattle.std.specs.Prelude.{ℕ, Some, None}
+use Rattle.std.specs.Prelude.{ℕ, zero, suc, Some, None}
 use Rattle.std.specs.Prelude as Std
 use Rattle.std.proofs.Math.Option.{Option, none, some}
 use Rattle.settings.specs.declared.SchedPolicy as Policies
@@ -42,3 +42,11 @@ refusal_number RefusalCases.CounterLimit = 19
 abbrev pub policy_found_meant : Std.Option Policies.SchedPolicy → Option Policy
 policy_found_meant (Some p) = some (policy_meant p)
 policy_found_meant None = none
+
+-- the policy with a number, counted from 0 in the Rust's order
+abbrev pub numbered : ℕ → Std.Option Policies.SchedPolicy
+numbered zero = Some PolicyCases.Off
+numbered (suc zero) = Some PolicyCases.Fifo
+numbered (suc (suc zero)) = Some PolicyCases.RoundRobin
+numbered (suc (suc (suc zero))) = Some PolicyCases.Priority
+numbered (suc (suc (suc (suc n)))) = None

@@ -4,7 +4,7 @@ ghost use Rattle.settings.specs.Policy.{all_policies, is_enabled, is_preemptive}
 ghost use Rattle.text.specs.Bytes.{lower_of};
 ghost use Rattle.text.specs.Lines.{trim};
 ghost use Rattle.settings.specs.Settings.{policy_of, policy_word, policy_label};
-ghost use Rattle.settings.specs.Reading.{policy_meant, policy_found_meant};
+ghost use Rattle.settings.specs.Reading.{policy_meant, policy_found_meant, numbered};
 
 use crate::SchedPolicy;
 use text::lines::trimmed;
@@ -89,6 +89,19 @@ impl SchedPolicy {
         ensures { map policy_meant result ≡ all_policies }
     {
         ALL
+    }
+
+    // The policy with this number, counted from 0 in the Rust's order.
+    pub fn numbered(number: u32) -> Option<SchedPolicy>
+        ensures { result ≡ numbered number }
+    {
+        match number {
+            0 => Some(SchedPolicy::Off),
+            1 => Some(SchedPolicy::Fifo),
+            2 => Some(SchedPolicy::RoundRobin),
+            3 => Some(SchedPolicy::Priority),
+            _ => None,
+        }
     }
 
     // The word that settings are written with.

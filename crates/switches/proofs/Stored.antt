@@ -15,50 +15,50 @@ use lib.ListN.{length, get_or, set, take, replicate, length-set, length-map, get
 use lib.Seq.{take-suc, get_or-set_same, get_or-set_other, length-take-le}
 use Rattle.model.specs.Types.{Move, starts, leaves, takes, SwitchEntry}
 use Rattle.model.specs.Accounting.{touched, switch_list}
-use Rattle.model.specs.Reading.{switch_words_meant, switches_meant}
-use Rattle.model.specs.declared.SwitchWords.{SwitchWords}
+use Rattle.model.specs.Reading.{switch_meant, switches_meant, switch_of}
+use Rattle.model.specs.declared.Switch.{Switch}
 use Rattle.model.specs.declared.CoreId.{CoreId}
-use Rattle.std.specs.Prelude as Answered
+use Rattle.std.specs.Prelude as Std
 use Rattle.model.specs.Calls.{switched}
 use Rattle.model.proofs.LoopLaws.{switch_list-append}
+use Rattle.model.proofs.Back.{switch-back}
 use Rattle.queue.specs.Words.{decode, moves_in}
 use Rattle.switches.specs.declared.SwitchList.{SwitchList}
-use Rattle.switches.specs.Entries.{core_meant, core_touched, entry_after, entry_words, no_switch, list_of, ListFor}
-use Rattle.switches.proofs.Words.{InWords, words-meant, words-written}
+use Rattle.switches.specs.Entries.{core_meant, core_touched, entry_after, no_switch, list_of, ListFor}
 use Rattle.switches.proofs.Cores.{cores, added, touch-cores, slot, placed, slot_placed, slot-within, placed-here, placed-other}
 use Rattle.switches.proofs.Few.{CoreBelow, word_below, few}
 
 -- a move that touches no core
-pub none_touched : (o : Answered.Option CoreId) → ((c : CoreId) → o ≡ Answered.Some c → ⊥) → 8 ≤ core_meant o
-none_touched Answered.None n = omega arith
-none_touched (Answered.Some c) n = absurd (n c refl)
+pub none_touched : (o : Std.Option CoreId) → ((c : CoreId) → o ≡ Std.Some c → ⊥) → 8 ≤ core_meant o
+none_touched Std.None n = omega arith
+none_touched (Std.Some c) n = absurd (n c refl)
 
 abbrev untouched : ℕ → SwitchEntry
 untouched i = record { core = i; out = none; inn = none }
 
-abbrev BlankFrom : ℕ → List SwitchWords → Type 0
+abbrev BlankFrom : ℕ → List Switch → Type 0
 BlankFrom n l = (j : ℕ) → n ≤ j → get_or l j no_switch ≡ no_switch
 
 -- f is what the definition does to core i's entry, g what the program does to the array's
 module _ (i : ℕ) (f g : SwitchEntry → SwitchEntry) (same : (e : SwitchEntry) → e.core ≡ i → g e ≡ f e) (new : g (untouched 0) ≡ f (untouched i)) where
   touch-stored :
-      (l : List SwitchWords) (n : ℕ) (x : SwitchWords) → BlankFrom n l → slot i (cores (switches_meant l n)) < length l
-      → switch_words_meant x ≡ g (switch_words_meant (get_or l (slot i (cores (switches_meant l n))) no_switch))
+      (l : List Switch) (n : ℕ) (x : Switch) → BlankFrom n l → slot i (cores (switches_meant l n)) < length l
+      → switch_meant x ≡ g (switch_meant (get_or l (slot i (cores (switches_meant l n))) no_switch))
       → switches_meant (set l (slot i (cores (switches_meant l n))) x) (max n (suc (slot i (cores (switches_meant l n))))) ≡ touched i f (switches_meant l n)
   unfolding touched slot
   touch-stored [] n x b s e = absurd (not-suc-le-zero s)
-  touch-stored (y ∷ l) zero x b s e = ap (λ (z : SwitchEntry). z ∷ []) (e ∙ ap (λ (z : SwitchWords). g (switch_words_meant z)) (b 0 (omega arith)) ∙ new)
+  touch-stored (y ∷ l) zero x b s e = ap (λ (z : SwitchEntry). z ∷ []) (e ∙ ap (λ (z : Switch). g (switch_meant z)) (b 0 (omega arith)) ∙ new)
   touch-stored (y ∷ l) (suc n) x b s e = go (eqb y.core.0 i) refl (touch-stored l n x (λ j h. b (suc j) (suc-le-suc h))) s e
     where
       at : ℕ
       at = slot i (cores (switches_meant l n))
 
       go : (t : Bool) → eqb y.core.0 i ≡ t
-          → (at < length l → switch_words_meant x ≡ g (switch_words_meant (get_or l at no_switch)) → switches_meant (set l at x) (max n (suc at)) ≡ touched i f (switches_meant l n))
-          → cond t 0 (suc at) < suc (length l) → switch_words_meant x ≡ g (switch_words_meant (get_or (y ∷ l) (cond t 0 (suc at)) no_switch))
-          → switches_meant (set (y ∷ l) (cond t 0 (suc at)) x) (max (suc n) (suc (cond t 0 (suc at)))) ≡ cond t (f (switch_words_meant y) ∷ switches_meant l n) (switch_words_meant y ∷ touched i f (switches_meant l n))
-      go true q r s e = rw (suc-max-suc, max-zero) (ap (λ (z : SwitchEntry). z ∷ switches_meant l n) (e ∙ same (switch_words_meant y) (eqb-true y.core.0 i q)))
-      go false q r s e = rw suc-max-suc (ap (λ (z : List SwitchEntry). switch_words_meant y ∷ z) (r (le_of_suc-le-suc s) e))
+          → (at < length l → switch_meant x ≡ g (switch_meant (get_or l at no_switch)) → switches_meant (set l at x) (max n (suc at)) ≡ touched i f (switches_meant l n))
+          → cond t 0 (suc at) < suc (length l) → switch_meant x ≡ g (switch_meant (get_or (y ∷ l) (cond t 0 (suc at)) no_switch))
+          → switches_meant (set (y ∷ l) (cond t 0 (suc at)) x) (max (suc n) (suc (cond t 0 (suc at)))) ≡ cond t (f (switch_meant y) ∷ switches_meant l n) (switch_meant y ∷ touched i f (switches_meant l n))
+      go true q r s e = rw (suc-max-suc, max-zero) (ap (λ (z : SwitchEntry). z ∷ switches_meant l n) (e ∙ same (switch_meant y) (eqb-true y.core.0 i q)))
+      go false q r s e = rw suc-max-suc (ap (λ (z : List SwitchEntry). switch_meant y ∷ z) (r (le_of_suc-le-suc s) e))
 
 ---- one move
 
@@ -75,8 +75,8 @@ switch-cores (leaves t i r) es h = touch-cores i _ (λ e. refl) es
 switch-cores (takes t i) es h = touch-cores i _ (λ e. refl) es
 
 move-stored :
-    (m : Move) → core_touched m < 8 → (l : List SwitchWords) (n at : ℕ) (x : SwitchWords) → BlankFrom n l → at ≡ slot (core_touched m) (cores (switches_meant l n)) → at < length l
-    → switch_words_meant x ≡ entry_after m (switch_words_meant (get_or l at no_switch)) → switches_meant (set l at x) (max n (suc at)) ≡ switch_list (switches_meant l n) (m ∷ [])
+    (m : Move) → core_touched m < 8 → (l : List Switch) (n at : ℕ) (x : Switch) → BlankFrom n l → at ≡ slot (core_touched m) (cores (switches_meant l n)) → at < length l
+    → switch_meant x ≡ entry_after m (switch_meant (get_or l at no_switch)) → switches_meant (set l at x) (max n (suc at)) ≡ switch_list (switches_meant l n) (m ∷ [])
 unfolding switch_list
 move-stored (starts t) h l n at x b p s e = absurd (omega arith)
 move-stored (leaves t i r) h l n at x b p s e =
@@ -87,31 +87,30 @@ move-stored (takes t i) h l n at x b p s e =
 ---- the arrays of the loop
 
 -- a list in the front of an array of eight, and each core's place in it; 8: nowhere yet
-pub record Listed (l : List SwitchWords) (places : List ℕ) (n : ℕ) (es : List SwitchEntry) : Type 0 where
+pub record Listed (l : List Switch) (places : List ℕ) (n : ℕ) (es : List SwitchEntry) : Type 0 where
   pub fits : n ≤ 8
   pub eight : length l ≡ 8
   pub cells : length places ≡ 8
   pub meant : switches_meant l n ≡ es
   pub rest : BlankFrom n l
-  pub words : (j : ℕ) → InWords (get_or l j no_switch)
   pub place : (i : ℕ) → i < 8 → get_or places i 0 ≡ placed i (cores es) 0
 
 pub listed-none : Listed (replicate 8 no_switch) (replicate 8 8) 0 []
 unfolding placed
-listed-none = record { fits = omega arith; eight = refl; cells = refl; meant = refl; rest = λ j h. blanks 8 j; words = λ j. rw (blanks 8 j); place = λ i h. get_or-replicate 8 i 8 0 h }
+listed-none = record { fits = omega arith; eight = refl; cells = refl; meant = refl; rest = λ j h. blanks 8 j; place = λ i h. get_or-replicate 8 i 8 0 h }
   where
     blanks : (n j : ℕ) → get_or (replicate n no_switch) j no_switch ≡ no_switch
     blanks zero j = refl
     blanks (suc n) zero = refl
     blanks (suc n) (suc j) = blanks n j
 
-module _ (l : List SwitchWords) (places : List ℕ) (n : ℕ) (es : List SwitchEntry) (a : Listed l places n es) (m : Move) where
+module _ (l : List Switch) (places : List ℕ) (n : ℕ) (es : List SwitchEntry) (a : Listed l places n es) (m : Move) where
   pub listed_same : CoreBelow 8 m → 8 ≤ core_touched m → Listed l places n (switch_list es (m ∷ []))
   listed_same b h = subst (Listed l places n) (sym (no_switch_lem m es b h)) a
 
   module _ (h : core_touched m < 8) (at : ℕ) (p : at ≡ min (get_or places (core_touched m) 0) n) where
     length-cores : length (cores es) ≡ n
-    length-cores = length-map es (λ (e : SwitchEntry). e.core) ∙ ap length (sym a.meant) ∙ length-map (take n l) switch_words_meant ∙ length-take-le n l (omega (arith, a.fits, a.eight))
+    length-cores = length-map es (λ (e : SwitchEntry). e.core) ∙ ap length (sym a.meant) ∙ length-map (take n l) switch_meant ∙ length-take-le n l (omega (arith, a.fits, a.eight))
 
     at_slot : at ≡ slot (core_touched m) (cores es)
     at_slot = omega (arith, p, a.place (core_touched m) h, slot_placed (core_touched m) (cores es) 0 (omega (arith, length-cores, a.fits)), length-cores)
@@ -121,25 +120,20 @@ module _ (l : List SwitchWords) (places : List ℕ) (n : ℕ) (es : List SwitchE
         omega (arith, at_slot, slot-within (core_touched m) (cores es), ap length (switch-cores m es h), length-map (switch_list es (m ∷ [])) (λ (e : SwitchEntry). e.core))
 
     pub listed_more :
-        at < 8 → (x : SwitchWords) → x ≡ entry_words (entry_after m (switch_words_meant (get_or l at no_switch))) → (n' : ℕ) → n' ≡ max n (at + 1)
+        at < 8 → (x : Switch) → switch_meant x ≡ entry_after m (switch_meant (get_or l at no_switch)) → (n' : ℕ) → n' ≡ max n (at + 1)
         → Listed (set l at x) (set places (core_touched m) at) n' (switch_list es (m ∷ []))
     listed_more r x e n' k =
         record {
           fits = omega (arith, a.fits);
           eight = length-set l at x ∙ a.eight;
           cells = length-set places (core_touched m) at ∙ a.cells;
-          meant = rw (k, add-one, ← a.meant) (move-stored m h l n at x a.rest (rw a.meant at_slot) (omega (arith, a.eight)) (ap switch_words_meant e ∙ words-meant _));
+          meant = rw (k, add-one, ← a.meant) (move-stored m h l n at x a.rest (rw a.meant at_slot) (omega (arith, a.eight)) e);
           rest = λ j g. get_or-set_other l at j x no_switch (before j g) ∙ a.rest j (omega arith);
-          words = λ j. written_after j (eqb j at) refl;
           place = λ i g. placed-after i g (eqb i (core_touched m)) refl;
         }
       where
         before : (j : ℕ) → n' ≤ j → j ≢ at
         before j g = λ z. omega arith
-
-        written_after : (j : ℕ) (b : Bool) → eqb j at ≡ b → InWords (get_or (set l at x) j no_switch)
-        written_after j true q = rw (eqb-true j at q, get_or-set_same l at x no_switch (omega (arith, a.eight))) (subst InWords (sym e) (words-written (entry_after m (switch_words_meant (get_or l at no_switch)))))
-        written_after j false q = rw (get_or-set_other l at j x no_switch (eqb-false j at q)) (a.words j)
 
         placed-after : (i : ℕ) → i < 8 → (b : Bool) → eqb i (core_touched m) ≡ b → get_or (set places (core_touched m) at) i 0 ≡ placed i (cores (switch_list es (m ∷ []))) 0
         placed-after i g true q =
@@ -155,7 +149,7 @@ unfolding moves_in
 next-move out k m h e =
     rw (e, add-one, take-suc out k 0 h, map-append decode (take k out) (get_or out k 0 ∷ [])) (sym (switch_list-append [] (map decode (take k out)) (decode (get_or out k 0) ∷ [])))
 
-module _ (out : List ℕ) (k : ℕ) (h : k < length out) (l : List SwitchWords) (places : List ℕ) (n : ℕ) (a : Listed l places n (switch_list [] (moves_in out k))) (m : Move) (e : m ≡ decode (get_or out k 0)) (c : ℕ) (ec : c ≡ core_touched m) where
+module _ (out : List ℕ) (k : ℕ) (h : k < length out) (l : List Switch) (places : List ℕ) (n : ℕ) (a : Listed l places n (switch_list [] (moves_in out k))) (m : Move) (e : m ≡ decode (get_or out k 0)) (c : ℕ) (ec : c ≡ core_touched m) where
   pub turn-same : 8 ≤ c → Listed l places n (switch_list [] (moves_in out (k + 1)))
   turn-same g = rw (next-move out k m h e) at (listed_same l places n _ a m (rw e (word_below (get_or out k 0))) (omega arith))
 
@@ -163,28 +157,28 @@ module _ (out : List ℕ) (k : ℕ) (h : k < length out) (l : List SwitchWords) 
     pub turn-room : at < 8
     turn-room = listed-room l places n _ a m (omega arith) at (rw ec at p) (rw (next-move out k m h e) (few out (k + 1)))
 
-    pub turn_more : (x : SwitchWords) → x ≡ entry_words (entry_after m (switch_words_meant (get_or l at no_switch))) → (n' : ℕ) → n' ≡ max n (at + 1) → Listed (set l at x) (set places c at) n' (switch_list [] (moves_in out (k + 1)))
+    pub turn_more : (x : Switch) → switch_meant x ≡ entry_after m (switch_meant (get_or l at no_switch)) → (n' : ℕ) → n' ≡ max n (at + 1) → Listed (set l at x) (set places c at) n' (switch_list [] (moves_in out (k + 1)))
     turn_more x q n' r = rw (ec, ← next-move out k m h e) (listed_more l places n _ a m (omega arith) at (rw ec at p) turn-room x q n' r)
 
----- the loop's end: the array is the list in words
+---- the loop's end: the array is the list as the program has it
 
-shaped : (l : List SwitchWords) (n k : ℕ) → n + k ≡ length l → BlankFrom n l → ((j : ℕ) → InWords (get_or l j no_switch)) → l ≡ map entry_words (switches_meant l n) ++ replicate k no_switch
-shaped [] zero zero h b w = refl
-shaped [] zero (suc k) h b w = absurd (omega arith)
-shaped [] (suc n) k h b w = absurd (omega arith)
-shaped (y ∷ l) zero zero h b w = absurd (omega arith)
-shaped (y ∷ l) zero (suc k) h b w = ap₂ (λ (x : SwitchWords) (r : List SwitchWords). x ∷ r) (b 0 (omega arith)) (shaped l zero k (omega arith) (λ j g. b (suc j) (omega arith)) (λ j. w (suc j)))
-shaped (y ∷ l) (suc n) k h b w = ap₂ (λ (x : SwitchWords) (r : List SwitchWords). x ∷ r) (w 0) (shaped l n k (omega arith) (λ j g. b (suc j) (suc-le-suc g)) (λ j. w (suc j)))
+shaped : (l : List Switch) (n k : ℕ) → n + k ≡ length l → BlankFrom n l → l ≡ map switch_of (switches_meant l n) ++ replicate k no_switch
+shaped [] zero zero h b = refl
+shaped [] zero (suc k) h b = absurd (omega arith)
+shaped [] (suc n) k h b = absurd (omega arith)
+shaped (y ∷ l) zero zero h b = absurd (omega arith)
+shaped (y ∷ l) zero (suc k) h b = ap₂ (λ (x : Switch) (r : List Switch). x ∷ r) (b 0 (omega arith)) (shaped l zero k (omega arith) (λ j g. b (suc j) (omega arith)))
+shaped (y ∷ l) (suc n) k h b = ap₂ (λ (x : Switch) (r : List Switch). x ∷ r) (sym (switch-back y)) (shaped l n k (omega arith) (λ j g. b (suc j) (suc-le-suc g)))
 
-pub listed-is : (l : List SwitchWords) (places : List ℕ) (n : ℕ) (es : List SwitchEntry) → Listed l places n es → ListFor (switched es) (record { entries = l; count = n })
+pub listed-is : (l : List Switch) (places : List ℕ) (n : ℕ) (es : List SwitchEntry) → Listed l places n es → ListFor (switched es) (record { entries = l; count = n })
 unfolding list_of
 listed-is l places n es a = record { list = whole; few = a.fits }
   where
     long : n ≡ length es
-    long = sym (ap length (sym a.meant) ∙ length-map (take n l) switch_words_meant ∙ length-take-le n l (omega (arith, a.fits, a.eight)))
+    long = sym (ap length (sym a.meant) ∙ length-map (take n l) switch_meant ∙ length-take-le n l (omega (arith, a.fits, a.eight)))
 
-    entries : l ≡ map entry_words es ++ replicate (8 - length es) no_switch
-    entries = rw a.meant at (shaped l n (8 - length es) (omega (arith, a.fits, a.eight, long)) a.rest a.words)
+    entries : l ≡ map switch_of es ++ replicate (8 - length es) no_switch
+    entries = rw a.meant at (shaped l n (8 - length es) (omega (arith, a.fits, a.eight, long)) a.rest)
 
-    whole : ◌≡◌ {A = SwitchList} (record { entries = l; count = n }) (record { entries = map entry_words es ++ replicate (8 - length es) no_switch; count = length es })
+    whole : ◌≡◌ {A = SwitchList} (record { entries = l; count = n }) (record { entries = map switch_of es ++ replicate (8 - length es) no_switch; count = length es })
     whole = λ i. record { entries = entries i; count = long i }

@@ -1,62 +1,31 @@
 // The switch list: "One entry per core touched, in order of first touch: thread out with reason, thread in."
-// `switch_of` is for hosts, who read a list by it; the others are parts.
+// Its public functions are parts for other crates: a host reads the list that a call answers.
 #![tactic(auto)]
 
 ghost use Rattle.std.specs.Prelude.{◌≡◌, [], ◌<◌, ◌≤◌, length, IfSome};
-ghost use Rattle.model.specs.Reading.{reason_meant, option_out_meant, out_from, switch_meant, switch_words_meant};
+ghost use Rattle.model.specs.Reading.{switch_meant};
 ghost use Rattle.model.specs.Accounting.{switch_list};
 ghost use Rattle.model.specs.Calls.{switched};
 ghost use Rattle.queue.specs.Words.{moves_in, move_meant, OnBoard};
-ghost use Rattle.switches.specs.Entries.{core_meant, core_touched, entry_after, reason_number, entry_words, no_switches, ListFor};
+ghost use Rattle.switches.specs.Entries.{core_meant, core_touched, entry_after, no_switches, ListFor};
 
-use model::{CoreId, LeaveReason, Switch, SwitchOut, SwitchWords, Tid};
+use model::{CoreId, Switch, SwitchOut};
 use queue::moves;
 use queue::moves::Move;
 
 // The list is entries[..count].
 #[derive(Clone, Copy)]
 pub struct SwitchList {
-    pub entries: [SwitchWords; 8],
+    pub entries: [Switch; 8],
     pub count: usize,
 }
 
 // An entry of no core.
-const NO_SWITCH: SwitchWords = SwitchWords {
+const NO_SWITCH: Switch = Switch {
     core: CoreId(0),
-    left: Tid(0),
-    came: Tid(0),
-    reason: 0,
-    taken: 0,
+    out: None,
+    inn: None,
 };
-
-// The number of a reason; 0 stands for no leave.
-fn reason_word(reason: LeaveReason) -> u16
-    ensures { result ≡ reason_number (reason_meant reason) }
-{
-    1 + reason.code() as u16
-}
-
-// Who leaves, by the number of the reason.
-fn out_of(word: u16, tid: Tid) -> Option<SwitchOut>
-    ensures { option_out_meant result ≡ out_from word tid.0 }
-{
-    if word == 0 {
-        return None;
-    }
-    let reason = LeaveReason::try_from(word as u64 - 1).unwrap_or(LeaveReason::Forced);
-    Some(SwitchOut { tid, reason })
-}
-
-// An entry of a switch list, as the host reads it.
-pub fn switch_of(w: SwitchWords) -> Switch
-    ensures { switch_meant result ≡ switch_words_meant w }
-{
-    Switch {
-        core: w.core,
-        out: out_of(w.reason, w.left),
-        inn: (w.taken != 0).then_some(w.came),
-    }
-}
 
 // The list where no switch is due.
 pub fn no_switches() -> SwitchList
@@ -81,22 +50,19 @@ fn core_touched(m: Move) -> Option<CoreId>
 }
 
 // The entry of the core that a move touches, after the move.
-fn entry_after(e: SwitchWords, m: Move) -> SwitchWords
-    requires { e ≡ entry_words (switch_words_meant e) }
-    ensures { result ≡ entry_words (entry_after (move_meant m) (switch_words_meant e)) }
+fn entry_after(e: Switch, m: Move) -> Switch
+    ensures { switch_meant result ≡ entry_after (move_meant m) (switch_meant e) }
 {
     match m {
         Move::Starts { .. } => e,
-        Move::Leaves { tid, core, reason } => SwitchWords {
+        Move::Leaves { tid, core, reason } => Switch {
             core,
-            left: tid,
-            reason: reason_word(reason),
+            out: Some(SwitchOut { tid, reason }),
             ..e
         },
-        Move::Takes { tid, core } => SwitchWords {
+        Move::Takes { tid, core } => Switch {
             core,
-            came: tid,
-            taken: 1,
+            inn: Some(tid),
             ..e
         },
     }

@@ -1,25 +1,19 @@
 -- The reading of a thread's record loses nothing: a record is known from what the definition reads of it.
 use Rattle.model.specs.declared.Tick.{Tick}
 use Rattle.model.specs.declared.CoreId.{CoreId}
-use Rattle.model.specs.declared.Tid.{Tid}
 use Rattle.std.specs.Prelude.{Some, None}
 use Rattle.std.specs.Prelude as Std
 use Prim.Native.Nat.{ℕ}
 use mathlib.Core.Path.{◌≡◌, refl, sym, ap, ◌∙◌}
 use mathlib.Core.Option.{Option, none, some}
 use Rattle.model.specs.declared.LastLeave as Leaves
-use Rattle.model.specs.declared.LeaveReason as LeaveReasons
-use Rattle.model.specs.declared.LeaveReason.TheVariants as reasons
 use Rattle.model.specs.declared.ThreadState as ThreadStates
 use Rattle.model.specs.declared.ThreadState.TheVariants as thread_states
 use Rattle.model.specs.declared.LastLeave as Leaves
 use Rattle.model.specs.declared.ThreadInfo.{ThreadInfo}
-use Rattle.model.specs.Types.{LeaveReason, Exit, Block, Yield, Quantum, Preempt, Forced, ThreadState, Ready, Exited, OnCore, Blocked, LastLeave, ThreadRecord}
-use Rattle.model.specs.Reading.{option_tid_meant, option_core_meant, option_tick_meant, option_leave_meant, reason_meant, thread_state_meant, thread_meant}
-
-abbrev tid_of : Option ℕ → Std.Option Tid
-tid_of none = None
-tid_of (some n) = Some (record { 0 = n })
+use Rattle.model.specs.Types.{ThreadState, Ready, Exited, OnCore, Blocked, LastLeave, ThreadRecord}
+use Rattle.model.specs.Reading.{option_core_meant, option_tick_meant, option_leave_meant, thread_state_meant, thread_meant, tid_of, reason_of}
+use Rattle.model.proofs.Back.{tid-back, reason-back, tid-there, reason-there}
 
 abbrev core_of : Option ℕ → Std.Option CoreId
 core_of none = None
@@ -28,14 +22,6 @@ core_of (some n) = Some (record { 0 = n })
 abbrev tick_of : Option ℕ → Std.Option Tick
 tick_of none = None
 tick_of (some n) = Some (record { 0 = n })
-
-abbrev reason_of : LeaveReason → LeaveReasons.LeaveReason
-reason_of Exit = reasons.Exit
-reason_of Block = reasons.Block
-reason_of Yield = reasons.Yield
-reason_of Quantum = reasons.Quantum
-reason_of Preempt = reasons.Preempt
-reason_of Forced = reasons.Forced
 
 abbrev state_of : ThreadState → ThreadStates.ThreadState
 state_of Ready = thread_states.Ready
@@ -72,10 +58,6 @@ thread_of t =
       };
     }
 
-tid-back : (t : Std.Option Tid) → tid_of (option_tid_meant t) ≡ t
-tid-back None = refl
-tid-back (Some t) = refl
-
 core-back : (c : Std.Option CoreId) → core_of (option_core_meant c) ≡ c
 core-back None = refl
 core-back (Some c) = refl
@@ -83,14 +65,6 @@ core-back (Some c) = refl
 tick-back : (n : Std.Option Tick) → tick_of (option_tick_meant n) ≡ n
 tick-back None = refl
 tick-back (Some n) = refl
-
-reason-back : (r : LeaveReasons.LeaveReason) → reason_of (reason_meant r) ≡ r
-reason-back reasons.Exit = refl
-reason-back reasons.Block = refl
-reason-back reasons.Yield = refl
-reason-back reasons.Quantum = refl
-reason-back reasons.Preempt = refl
-reason-back reasons.Forced = refl
 
 state-back : (s : ThreadStates.ThreadState) → state_of (thread_state_meant s) ≡ s
 state-back thread_states.Ready = refl
@@ -110,10 +84,6 @@ thread-back t = rw (tid-back t.parent, state-back t.state, core-back t.last_core
 pub is-thread_of : (t : ThreadInfo) (x : ThreadRecord) → thread_meant t ≡ x → t ≡ thread_of x
 is-thread_of t x e = sym (thread-back t) ∙ ap thread_of e
 
-tid-there : (x : Option ℕ) → option_tid_meant (tid_of x) ≡ x
-tid-there none = refl
-tid-there (some n) = refl
-
 core-there : (x : Option ℕ) → option_core_meant (core_of x) ≡ x
 core-there none = refl
 core-there (some n) = refl
@@ -121,14 +91,6 @@ core-there (some n) = refl
 tick-there : (x : Option ℕ) → option_tick_meant (tick_of x) ≡ x
 tick-there none = refl
 tick-there (some n) = refl
-
-reason-there : (x : LeaveReason) → reason_meant (reason_of x) ≡ x
-reason-there Exit = refl
-reason-there Block = refl
-reason-there Yield = refl
-reason-there Quantum = refl
-reason-there Preempt = refl
-reason-there Forced = refl
 
 state-there : (x : ThreadState) → thread_state_meant (state_of x) ≡ x
 state-there Ready = refl

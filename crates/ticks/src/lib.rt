@@ -21,12 +21,3 @@ pub fn charge_core(ticks: &mut CoreTicks, state: CoreState)
         CoreState::Running { .. } => ticks.busy += 1,
     }
 }
-
-// The same by value: it lends a copy, so that whoever calls it holds no reference.
-pub fn charged_ticks(mut ticks: CoreTicks, state: CoreState) -> CoreTicks
-    requires { TicksRoom ticks }
-    ensures { core_ticks_meant result ≡ charge_core (core_state_meant state) (core_ticks_meant ticks) }
-{
-    charge_core(&mut ticks, state);
-    ticks
-}
