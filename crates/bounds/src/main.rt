@@ -6,15 +6,14 @@
 // read off what the calls left: the list is replayed up to each tick end.
 #![tactic(auto)]
 
-ghost use Rattle.std.specs.Prelude.{◌≤◌};
-
-use model::{SwitchWords, ThreadInfo};
+use model::{CoreId, Switch, ThreadInfo, Tid};
 use records::change::first_thread;
 use replay::{Replayed, replay};
-use sched::Outcome;
+use sched::{Call, Outcome};
 use settings::{Refusal, SchedConfig, SchedPolicy};
 use state::Capacities;
-use switches::{SwitchList, switch_of};
+use state::memory::LentMemory;
+use switches::SwitchList;
 use text::STDOUT_FILENO;
 
 const CALLS: usize = 3_000;
@@ -30,13 +29,20 @@ struct Board {
 // What is read after a call.
 #[derive(Clone, Copy)]
 struct Seen {
-    // how many stand before thread 0 in the queue; 256 where it is not there
-    before: usize,
+    // how many stand before thread 0 in the queue, where it is there
+    before: Option<usize>,
     // 1 where the call was a tick that is not refused
     ticked: u64,
     taken: bool,
     left: bool,
     run: u64,
+}
+
+// A list that is being made: the first `count` are its calls.
+#[derive(Drop)]
+struct CallList<'a> {
+    calls: &'a mut [Call],
+    count: usize,
 }
 
 #[derive(Clone, Copy)]
@@ -63,16 +69,19 @@ fn show(cores: u32, quantum: u32, cost: u32, p: u32) {
         cost,
         spawns,
     };
-    let mut calls = [0u32; 9_000];
-    let start = put_start(&mut calls, board);
-    put_ticks(&mut calls, start, cores);
+    let mut calls = [Call::EndTick; CALLS];
+    let start = put_calls(&mut calls, board);
     let seen = after(board, &calls, start);
+    let Some(before) = seen.before else {
+        print(b"thread 0 does not wait\n");
+        return;
+    };
     let found = follow(board, &calls, start);
     print_number(b"cores=", cores as u64);
     print_number(b",quantum=", quantum as u64);
     print_number(b",cost=", cost as u64);
-    print_number(b",p=", seen.before as u64);
-    print_number(b",bound=", bound(seen.before as u64, cores, quantum, cost));
+    print_number(b",p=", before as u64);
+    print_number(b",bound=", bound(before as u64, cores, quantum, cost));
     print_number(b",ticks=", found.ticks);
     print_number(b",stay=", found.stay);
     print(b"\n");
@@ -85,77 +94,79 @@ fn bound(p: u64, cores: u32, quantum: u32, cost: u32) -> u64 {
     windows.wrapping_add(1).wrapping_mul(window)
 }
 
-// The list's next call, and how many it then has. A full list stays as it is.
-fn put_call(calls: &mut [u32; 9_000], count: usize, kind: u32, first: u32) -> usize
-    ensures { result ≤ 3000 }
-{
-    if CALLS <= count {
-        return CALLS;
+// The whole list, and how many calls there are up to the end of the first tick.
+fn put_calls(calls: &mut [Call], board: Board) -> usize {
+    let mut list = CallList { calls, count: 0 };
+    list.put_start(board);
+    let start = list.count;
+    list.put_ticks(board.cores);
+    start
+}
+
+impl CallList<'_> {
+    // The next call. A full list stays as it is.
+    fn put(&mut self, call: Call) {
+        if let Some(place) = self.calls.get_mut(self.count) {
+            *place = call;
+            self.count += 1;
+        }
     }
-    let at = 3 * count;
-    calls[at] = kind;
-    calls[at + 1] = first;
-    calls[at + 2] = 0;
-    count + 1
-}
 
-fn put_reports(calls: &mut [u32; 9_000], from: usize, cores: u32) -> usize {
-    let mut count = from;
-    for core in 0..cores {
-        count = put_call(calls, count, 4, core);
+    fn put_reports(&mut self, cores: u32) {
+        for core in 0..cores {
+            self.put(Call::Retired(CoreId(core)));
+        }
     }
-    count
-}
 
-fn put_spawns(calls: &mut [u32; 9_000], spawns: u32) -> usize {
-    let mut count = 0;
-    for _ in 0..spawns {
-        count = put_call(calls, count, 1, 0);
+    fn put_spawns(&mut self, spawns: u32) {
+        for _ in 0..spawns {
+            self.put(Call::Spawn(Some(Tid(0)), 0));
+        }
     }
-    count
-}
 
-// Up to the end of the first tick, in which thread 0 yields.
-fn put_start(calls: &mut [u32; 9_000], board: Board) -> usize {
-    let spawned = put_spawns(calls, board.spawns);
-    let reported = put_reports(calls, spawned, board.cores);
-    let yielded = put_call(calls, reported, 5, 0);
-    put_call(calls, yielded, 9, 0)
-}
+    // Up to the end of the first tick, in which thread 0 yields.
+    fn put_start(&mut self, board: Board) {
+        self.put_spawns(board.spawns);
+        self.put_reports(board.cores);
+        self.put(Call::YieldNow(CoreId(0)));
+        self.put(Call::EndTick);
+    }
 
-// Ticks before each of which every core reports, 250 of them.
-fn put_ticks(calls: &mut [u32; 9_000], from: usize, cores: u32) {
-    let mut count = from;
-    for _ in 0..250 {
-        let reported = put_reports(calls, count, cores);
-        count = put_call(calls, reported, 9, 0);
+    // Ticks before each of which every core reports, 250 of them.
+    fn put_ticks(&mut self, cores: u32) {
+        for _ in 0..250 {
+            self.put_reports(cores);
+            self.put(Call::EndTick);
+        }
     }
 }
 
 // Tick end by tick end from the start on: how many ticks till thread 0 takes a core, and what it runs till it leaves.
-fn follow(board: Board, calls: &[u32; 9_000], start: usize) -> Found {
+fn follow(board: Board, calls: &[Call; CALLS], start: usize) -> Found {
     let step = board.cores as usize + 1;
     let mut ticks = 0;
-    let mut taken = false;
-    let mut run = 0;
+    // what thread 0 had run when it took a core
+    let mut taken = None;
     for done in (start..CALLS).step_by(step) {
         let seen = after(board, calls, done + step);
-        if taken {
-            if seen.left {
-                let stay = seen.run.wrapping_sub(run);
-                return Found { ticks, stay };
+        match taken {
+            Some(run) => {
+                if seen.left {
+                    let stay = seen.run.wrapping_sub(run);
+                    return Found { ticks, stay };
+                }
             }
-        } else {
-            ticks = ticks.wrapping_add(seen.ticked);
-            taken = seen.taken;
-            run = seen.run;
+            None => {
+                ticks = ticks.wrapping_add(seen.ticked);
+                taken = seen.taken.then_some(seen.run);
+            }
         }
     }
     Found { ticks, stay: 0 }
 }
 
 // What the first `upto` calls leave.
-fn after(board: Board, calls: &[u32; 9_000], upto: usize) -> Seen {
+fn after(board: Board, calls: &[Call; CALLS], upto: usize) -> Seen {
     let policy = SchedPolicy::RoundRobin;
     let config = SchedConfig {
         policy,
@@ -172,33 +183,24 @@ fn after(board: Board, calls: &[u32; 9_000], upto: usize) -> Seen {
     let mut prios = [0u32; 256];
     let mut log = [0u64; 2];
     let mut lanes = [0u64; 96];
-    let replayed = replay(
-        config,
-        board.cores,
-        capacities,
-        0,
-        calls,
-        upto,
-        &mut threads,
-        &mut queue,
-        &mut prios,
-        &mut log,
-        &mut lanes,
-    );
+    let mut m = LentMemory {
+        threads: &mut threads,
+        queue: &mut queue,
+        prios: &mut prios,
+        log: &mut log,
+        lanes: &mut lanes,
+    };
+    let replayed = replay(config, board.cores, capacities, 0, calls, upto, &mut m);
     let before = place(&queue, replayed.sched.queued);
     seen_of(replayed, threads[0], before)
 }
 
-// The place of thread 0 in the queue; 256 where it is not there.
-fn place(queue: &[u32; 256], queued: usize) -> usize {
-    queue
-        .iter()
-        .take(queued)
-        .position(|tid| *tid == 0)
-        .unwrap_or(256)
+// The place of thread 0 in the queue, where it is there.
+fn place(queue: &[u32; 256], queued: usize) -> Option<usize> {
+    queue.iter().take(queued).position(|tid| *tid == 0)
 }
 
-fn seen_of(replayed: Replayed, first: ThreadInfo, before: usize) -> Seen {
+fn seen_of(replayed: Replayed, first: ThreadInfo, before: Option<usize>) -> Seen {
     Seen {
         before,
         ticked: ticked(replayed.outcome),
@@ -214,20 +216,20 @@ fn ticked(outcome: Result<Outcome, Refusal>) -> u64 {
 
 // Whether a switch list has thread 0 coming in.
 fn takes(list: SwitchList) -> bool {
-    list.entries.iter().take(list.count).any(|w| comes(*w))
+    list.entries.iter().take(list.count).any(|s| comes(*s))
 }
 
 // Whether a switch list has thread 0 going out.
 fn leaves(list: SwitchList) -> bool {
-    list.entries.iter().take(list.count).any(|w| goes(*w))
+    list.entries.iter().take(list.count).any(|s| goes(*s))
 }
 
-fn comes(w: SwitchWords) -> bool {
-    switch_of(w).inn.is_some_and(|t| t.0 == 0)
+fn comes(s: Switch) -> bool {
+    s.inn.is_some_and(|t| t.0 == 0)
 }
 
-fn goes(w: SwitchWords) -> bool {
-    switch_of(w).out.is_some_and(|o| o.tid.0 == 0)
+fn goes(s: Switch) -> bool {
+    s.out.is_some_and(|o| o.tid.0 == 0)
 }
 
 fn print_number(text: &[u8], n: u64) {

@@ -24,7 +24,7 @@ use Rattle.charges.specs.Charging.{cores_meant}
 use Rattle.threads.specs.Slice.{threads_in, Front, AllChargeable}
 use Rattle.state.specs.declared.Sched.{Sched}
 use Rattle.state.specs.Memory.{memory}
-use Rattle.state.specs.State.{firsts, core_from, states_of, lane_start, meant_at, Marks, Valid}
+use Rattle.state.specs.State.{firsts, core_from, board_of, states_of, lane_start, meant_at, MarksOK, Valid}
 use Rattle.state.specs.Done.{Frame, Same, Done}
 use Rattle.state.proofs.Firsts.{length-firsts, firsts_same}
 use Rattle.state.proofs.Doing.{done_refused, done-taken}
@@ -161,8 +161,8 @@ module _ (s : Sched) (ts : List ThreadInfo) (qs ps ls ws : List ℕ) (v : Valid 
     cores-kept : s₁.cores ≡ s.cores
     unfolding exited meant_at
     cores-kept =
-        let own = core_from (states_of s.states) s.exits s.blocks s.yields s.progressed in
-        sym (length-firsts (core_from (states_of s₁.states) s₁.exits s₁.blocks s₁.yields s₁.progressed) s₁.cores) ∙ ap (λ (x : State). length x.cores) state-exited
+        let own = board_of s in
+        sym (length-firsts (board_of s₁) s₁.cores) ∙ ap (λ (x : State). length x.cores) state-exited
         ∙ length-update mark_exit i M.cores ∙ length-firsts own s.cores
 
     -- so the tick can end
@@ -214,13 +214,13 @@ module _ (s : Sched) (ts : List ThreadInfo) (qs ps ls ws : List ℕ) (v : Valid 
       ---- the cores
 
       abbrev own : ℕ → Core
-      own = core_from (states_of s₁.states) s₁.exits s₁.blocks s₁.yields s₁.progressed
+      own = board_of s₁
 
       abbrev clear : ℕ → Core
-      clear = core_from (states_of s₁.states) (replicate 8 false) (replicate 8 false) (replicate 8 false) s₁.progressed
+      clear = core_from (states_of s₁.states) (replicate 8 false) (replicate 8 false) (replicate 8 false) s₁.marks.progressed
 
       abbrev left : ℕ → Core
-      left = core_from (states_of C.states) (replicate 8 false) (replicate 8 false) (replicate 8 false) s₁.progressed
+      left = core_from (states_of C.states) (replicate 8 false) (replicate 8 false) (replicate 8 false) s₁.marks.progressed
 
       cleared-own : (j : ℕ) → clear j ≡ unmarked (own j)
       unfolding core_from
@@ -229,19 +229,19 @@ module _ (s : Sched) (ts : List ThreadInfo) (qs ps ls ws : List ℕ) (v : Valid 
       cores-closed : firsts left s₁.cores ≡ map unmarked (sliced_all (firsts own s₁.cores))
       unfolding pass_of and_then
       cores-closed =
-          ap (λ (p : Pass). p.cores) (C.sliced (replicate 8 false) (replicate 8 false) (replicate 8 false) s₁.progressed [] []).done
+          ap (λ (p : Pass). p.cores) (C.sliced (replicate 8 false) (replicate 8 false) (replicate 8 false) s₁.marks.progressed [] []).done
           ∙ ap (λ (p : Pass). p.cores) (ascend-phase1 0 (firsts clear s₁.cores) [])
           ∙ ap sliced_all (firsts_same clear (λ j. unmarked (own j)) s₁.cores (λ j l. cleared-own j) ∙ sym (map-firsts unmarked own s₁.cores))
           ∙ sliced-unmarked (firsts own s₁.cores)
 
-      marks : Marks s₁.cores (states_of C.states) (replicate 8 false) (replicate 8 false) (replicate 8 false) s₁.progressed
+      marks : MarksOK s₁.cores (states_of C.states) (record s₁.marks { exits = replicate 8 false; blocks = replicate 8 false; yields = replicate 8 false })
       marks =
           record {
             exits = refl;
             blocks = refl;
             yields = refl;
             progressed = v₁.marks.progressed;
-            unused = λ j l. (C.sliced (replicate 8 false) (replicate 8 false) (replicate 8 false) s₁.progressed [] []).rest j l ∙ cleared-own j ∙ ap unmarked (v₁.marks.unused j l);
+            unused = λ j l. (C.sliced (replicate 8 false) (replicate 8 false) (replicate 8 false) s₁.marks.progressed [] []).rest j l ∙ cleared-own j ∙ ap unmarked (v₁.marks.unused j l);
           }
 
       ---- the records
@@ -251,7 +251,7 @@ module _ (s : Sched) (ts : List ThreadInfo) (qs ps ls ws : List ℕ) (v : Valid 
 
       threads-charged : threads_in ts' s₁.threads ≡ charge_threads M₁.cores 0 (threads_in ts₁ s₁.threads)
       unfolding meant_at
-      threads-charged = front.front ∙ charge-used s₁.states s₁.exits s₁.blocks s₁.yields s₁.progressed s₁.cores v₁.sizes.cores v₁.marks.unused (threads_in ts₁ s₁.threads)
+      threads-charged = front.front ∙ charge-used s₁.states s₁.marks.exits s₁.marks.blocks s₁.marks.yields s₁.marks.progressed s₁.cores v₁.sizes.cores v₁.marks.unused (threads_in ts₁ s₁.threads)
 
       long : length ts' ≡ length ts₁
       long =

@@ -48,9 +48,7 @@ closed_sched s t c states =
       now = t;
       closed = true;
       states = states;
-      exits = replicate 8 false;
-      blocks = replicate 8 false;
-      yields = replicate 8 false;
+      marks = record s.marks { exits = replicate 8 false; blocks = replicate 8 false; yields = replicate 8 false };
       ticks = c.ticks;
       lanes = c.lanes;
     }

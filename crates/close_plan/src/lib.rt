@@ -7,7 +7,7 @@ ghost use Rattle.std.specs.Prelude.{◌≡◌, ◌≤◌};
 ghost use Rattle.checks.specs.Check.{check_meant};
 ghost use Rattle.close_plan.specs.Close.{close_refusal, close_core, charged_threads, closed_sched, PhaseFits, ClosedOf, CloseFits, CloseFinished};
 
-use checks::{LIMIT, check_core};
+use checks::{LIMIT, Needs, check_core};
 use model::{CoreId, Tick};
 use phases::phase1;
 use sched_marks::Answered;
@@ -15,6 +15,7 @@ use settings::Refusal;
 use state::{Eight, Sched, pack, unpack};
 use tick_plan::Charged;
 use tick_plan::tick::{charge, next_tick};
+use turns::Marks;
 
 // There are at most eight cores: a core that is not there.
 const NO_CORE: u32 = 8;
@@ -24,7 +25,7 @@ fn check_close(s: Sched, core: CoreId) -> Result<(), Refusal>
     requires { s.cores ≤ 8 }
     ensures { check_meant result ≡ close_refusal s core.0 }
 {
-    check_core(s, core, false)?;
+    check_core(s, core, Needs::Held)?;
     if LIMIT <= s.now.0 {
         return Err(Refusal::ClockLimit);
     }
@@ -61,9 +62,12 @@ fn closed_sched(s: Sched, tick: Tick, c: Charged, states: Eight) -> Sched
         now: tick,
         closed: true,
         states,
-        exits: [false; 8],
-        blocks: [false; 8],
-        yields: [false; 8],
+        marks: Marks {
+            exits: [false; 8],
+            blocks: [false; 8],
+            yields: [false; 8],
+            ..s.marks
+        },
         ticks,
         lanes,
         ..s

@@ -30,7 +30,7 @@ use Rattle.threads.proofs.Waking.{wake-threads}
 use Rattle.accounts.proofs.Figures.{log-capacity, woken-log, woken-timelines, woken-switches}
 use Rattle.state.specs.declared.Sched.{Sched}
 use Rattle.state.specs.Memory.{memory}
-use Rattle.state.specs.State.{firsts, core_from, states_of, meant_at, log_words, Marks, Valid}
+use Rattle.state.specs.State.{firsts, core_from, board_of, states_of, meant_at, log_words, MarksOK, Valid}
 use Rattle.state.specs.Done.{Done}
 use Rattle.state.proofs.Firsts.{core_at-firsts}
 use Rattle.state.proofs.Doing.{done_refused, done-taken}
@@ -96,9 +96,9 @@ module _ (s : Sched) (ts : List ThreadInfo) (qs ps ls ws : List ℕ) (v : Valid 
     abbrev t : ℕ
     t = (exit_tid s i).0
 
-    core-own : core_at M.cores i ≡ core_from (states_of s.states) s.exits s.blocks s.yields s.progressed i
+    core-own : core_at M.cores i ≡ board_of s i
     unfolding meant_at
-    core-own = core_at-firsts (core_from (states_of s.states) s.exits s.blocks s.yields s.progressed) s.cores i (exit-core s i h)
+    core-own = core_at-firsts (board_of s) s.cores i (exit-core s i h)
 
     -- the thread of the core is the definition's
     tid-on : tid_on M i ≡ t
@@ -261,20 +261,20 @@ module _ (s : Sched) (ts : List ThreadInfo) (qs ps ls ws : List ℕ) (v : Valid 
           logged = (f.taken h).1
 
           abbrev own : List Bool → ℕ → Core
-          own e = core_from (states_of s.states) e s.blocks s.yields s.progressed
+          own e = core_from (states_of s.states) e s.marks.blocks s.marks.yields s.marks.progressed
 
           abbrev with-mark : ℕ → Bool → Core
-          with-mark j b = record { state = (own s.exits j).state; exits = b; blocks = (own s.exits j).blocks; yields = (own s.exits j).yields; progressed = (own s.exits j).progressed }
+          with-mark j b = record { state = (own s.marks.exits j).state; exits = b; blocks = (own s.marks.exits j).blocks; yields = (own s.marks.exits j).yields; progressed = (own s.marks.exits j).progressed }
 
-          cores-marked : firsts (own (set s.exits i true)) s.cores ≡ update i mark_exit (firsts (own s.exits) s.cores)
+          cores-marked : firsts (own (set s.marks.exits i true)) s.cores ≡ update i mark_exit (firsts (own s.marks.exits) s.cores)
           unfolding core_from
           cores-marked =
               let l = exit-core s i h in
-              let n : i < length s.exits = (let x = v.marks.exits in let y = v.sizes.cores in omega arith) in
-              firsts-update (own s.exits) (own (set s.exits i true)) mark_exit s.cores i idle_core l
-              (ap (λ (b : Bool). with-mark i b) (get_or-set_same s.exits i true false n)) (λ j d. ap (λ (b : Bool). with-mark j b) (get_or-set_other s.exits i j true false d))
+              let n : i < length s.marks.exits = (let x = v.marks.exits in let y = v.sizes.cores in omega arith) in
+              firsts-update (own s.marks.exits) (own (set s.marks.exits i true)) mark_exit s.cores i idle_core l
+              (ap (λ (b : Bool). with-mark i b) (get_or-set_same s.marks.exits i true false n)) (λ j d. ap (λ (b : Bool). with-mark j b) (get_or-set_other s.marks.exits i j true false d))
 
-          marks : Marks s.cores (states_of s.states) (set s.exits i true) s.blocks s.yields s.progressed
+          marks : MarksOK s.cores (states_of s.states) (record s.marks { exits = set s.marks.exits i true })
           unfolding core_from
           marks =
               let m = v.marks in
@@ -284,7 +284,7 @@ module _ (s : Sched) (ts : List ThreadInfo) (qs ps ls ws : List ℕ) (v : Valid 
                 blocks = m.blocks;
                 yields = m.yields;
                 progressed = m.progressed;
-                unused = λ j k. ap (λ (b : Bool). with-mark j b) (get_or-set_other s.exits i j true false (λ z. omega arith)) ∙ m.unused j k;
+                unused = λ j k. ap (λ (b : Bool). with-mark j b) (get_or-set_other s.marks.exits i j true false (λ z. omega arith)) ∙ m.unused j k;
               }
 
           queue-is : take len qs₂ ≡ take s.queued qs ++ W h

@@ -48,7 +48,7 @@ pub record WakesLogged (words now : ℕ) (tids : List ℕ) (ls ls' : List ℕ) (
 
 -- the state with the core's exit mark, the queue's new length and the log's new position
 abbrev pub with_exit : (core queued : ℕ) → RingPos → Sched → Sched
-with_exit i len p s = record s { queued = len; exits = set s.exits i true; log = p }
+with_exit i len p s = record s { queued = len; marks = record s.marks { exits = set s.marks.exits i true }; log = p }
 
 -- what the call's end asks: the queue is `len` long now
 pub record FinishFit (s : Sched) (len : ℕ) (qs ls : List ℕ) : Type 0 where

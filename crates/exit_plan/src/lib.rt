@@ -8,7 +8,7 @@ ghost use Rattle.rings.specs.Ring.{RingOK};
 ghost use Rattle.exit_plan.specs.Exit.{exit_tid, exit_place, exit_change, exit_threads, WakesLogged, FinishFit, Finished};
 
 use accounts::log::log_wakes;
-use checks::check_core;
+use checks::{Needs, check_core};
 use model::{CoreId, Tick, Tid};
 use records::change::Change;
 use rings::RingPos;
@@ -28,7 +28,7 @@ pub fn exit_place(s: Sched, core: CoreId) -> usize
     requires { s.cores ≤ 8 }
     ensures { result ≡ exit_place s core.0 }
 {
-    match check_core(s, core, false) {
+    match check_core(s, core, Needs::Held) {
         Err(_) => 0,
         Ok(()) => exit_tid(s, core).0 as usize,
     }
@@ -39,7 +39,7 @@ pub fn exit_change(s: Sched, core: CoreId) -> Change
     requires { s.cores ≤ 8 }
     ensures { result ≡ exit_change s core.0 }
 {
-    match check_core(s, core, false) {
+    match check_core(s, core, Needs::Held) {
         Err(_) => Change::Keep,
         Ok(()) => Change::Exit { now: s.now },
     }
@@ -50,7 +50,7 @@ pub fn exit_threads(s: Sched, core: CoreId) -> usize
     requires { s.cores ≤ 8 }
     ensures { result ≡ exit_threads s core.0 }
 {
-    match check_core(s, core, false) {
+    match check_core(s, core, Needs::Held) {
         Err(_) => 0,
         Ok(()) => s.threads,
     }
@@ -83,14 +83,14 @@ pub fn exit_finished(
     requires { FinishFit s len queue.now log.old }
     ensures { Finished s core.0 len queue.now log.old log.new result.sched result.answer }
 {
-    let answer = check_core(s, core, false);
+    let answer = check_core(s, core, Needs::Held);
     match answer {
         Err(_) => Answered { sched: s, answer },
         Ok(()) => {
             let i = core.0 as usize;
             let words = 2 * s.capacities.events;
             let mut next = s;
-            next.exits[i] = true;
+            next.marks.exits[i] = true;
             next.queued = len;
             next.log = log_woken(log, words, s.log, queue, s.queued, len, s.now);
             Answered {

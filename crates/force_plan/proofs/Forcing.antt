@@ -32,7 +32,7 @@ use Rattle.threads.specs.Slice.{blank, threads_in, Front, tid_at, MovesFit}
 use Rattle.threads.proofs.Slices.{thread-at, length-threads}
 use Rattle.state.specs.declared.Sched.{Sched}
 use Rattle.state.specs.Memory.{memory}
-use Rattle.state.specs.State.{core_from, no_pos, meant_at, Valid}
+use Rattle.state.specs.State.{board_of, core_from, no_pos, meant_at, Valid}
 use Rattle.state.specs.Done.{Done}
 use Rattle.state.proofs.Doing.{done-taken}
 use Rattle.state.proofs.Firsts.{length-firsts, core_at-firsts}
@@ -40,10 +40,10 @@ use Rattle.accounts.proofs.Figures.{firsts_same, applied-log, applied-timelines}
 use Rattle.rings.specs.Timeline.{segments_in}
 use Rattle.tick_plan.specs.declared.Planned.{Planned}
 use Rattle.tick_plan.specs.declared.Written.{Written}
-use Rattle.tick_plan.specs.Plan.{MovedRecords, WriteFits, WrittenOf}
+use Rattle.tick_plan.specs.Plan.{MovedRecords, planned_sched, WriteFits, WrittenOf}
 use Rattle.tick_plan.proofs.Range.{In, CoreIn, MovesIn, QueueIn, moves-append, in-dispatch_moves, in-out_of, placed-cores, placed-queue}
 use Rattle.tick_plan.proofs.Reading.{priorities_of, priority-moved, front_long, moves-at, few-takes, behind_more, lane-same}
-use Rattle.force_plan.specs.Plan.{ForcePending, ForceFits, ForcedOf, cores_of, state_at, force_refusal, forced_sched}
+use Rattle.force_plan.specs.Plan.{ForcePending, ForceFits, ForcedOf, state_at, force_refusal}
 
 -- the thread at a place of a queue of known threads is known
 queue-at : (N : ℕ) (q : List ℕ) (k : ℕ) → QueueIn N q → k < length q → get_or q k 0 < N
@@ -68,7 +68,7 @@ module _ (s : Sched) (ts : List ThreadInfo) (qs ps ls ws : List ℕ) (v : Valid 
 
     state-at : leb s.cores i ≡ false → core_state_of M i ≡ state_at s i
     unfolding core_state_of meant_at core_from
-    state-at e = ap (λ (c : Core). c.state) (core_at-firsts (cores_of s) s.cores i (leb-false s.cores i e))
+    state-at e = ap (λ (c : Core). c.state) (core_at-firsts (board_of s) s.cores i (leb-false s.cores i e))
 
     takes-place : (r : Option ℕ) → cannot_take M i nm r ≡ check (absent nm) (leb s.queued at) r
     unfolding check
@@ -82,7 +82,7 @@ module _ (s : Sched) (ts : List ThreadInfo) (qs ps ls ws : List ℕ) (v : Valid 
     pub force-refusal : refusal M (force i nm) ≡ force_refusal s i nm at
     unfolding refusal force_refusal no_core meant_at check
     force-refusal =
-        ap (λ (n : ℕ). check 4 (leb n i) (check 11 s.closed (check 12 (any_leaving M.cores) (check 14 (is_switching (core_state_of M i)) (cannot_take M i nm (check 19 (leb limit_switches s.context_switches) none)))))) (length-firsts (cores_of s) s.cores)
+        ap (λ (n : ℕ). check 4 (leb n i) (check 11 s.closed (check 12 (any_leaving M.cores) (check 14 (is_switching (core_state_of M i)) (cannot_take M i nm (check 19 (leb limit_switches s.context_switches) none)))))) (length-firsts (board_of s) s.cores)
         ∙ go (leb s.cores i) refl
       where
         go : (b : Bool) → leb s.cores i ≡ b
@@ -144,7 +144,7 @@ module _ (s : Sched) (ts : List ThreadInfo) (qs ps ls ws : List ℕ) (v : Valid 
 
       module _ (p : Planned) (w : Written) (qs' ls' ws' : List ℕ) (P : ForcedOf s i at qs qs' ws ws' p) (R : WrittenOf s s.now.0 (moves_in ws' p.moves) ls ls' w) where
         abbrev s' : Sched
-        s' = forced_sched s p w
+        s' = planned_sched s p w
 
         abbrev made : List Move
         made = moves_in ws' p.moves
@@ -252,5 +252,5 @@ module _ (s : Sched) (ts : List ThreadInfo) (qs ps ls ws : List ℕ) (v : Valid 
               P.words v.ticks priorities-kept
               (record { threads = moved_front.rest; queue = rw m P.queue.behind; prios = refl; log = R.after; lanes = behind_more 80 (s.cores * (2 * s.capacities.segments)) ws ws' P.behind; ticks = λ j k. refl; places = λ j k. refl })
 
-        pub force-pending : (a : Result Unit Refusal) → a ≡ Ok tt → ForcePending i nm a w.switches s s' p.moves ts qs qs' ps ls ls' ws ws'
+        pub force-pending : (a : Result Unit Refusal) → a ≡ Ok tt → ForcePending i nm a w.switches s s' p.moves (memory ts qs ps ls ws) (memory ts qs' ps ls' ws')
         force-pending a e = record { fits = force-fits; done = λ ts' g. record { done = force-done ts' g a e; list = list-taken _ _ R.list a e } }

@@ -11,8 +11,7 @@ use borrow.Author.Tests.{eqb-true, eqb-false}
 use Rattle.model.specs.Types.{Core}
 use Rattle.model.specs.Calls.{leaving, any_leaving}
 use Rattle.state.specs.declared.Sched.{Sched}
-use Rattle.state.specs.State.{firsts, core_from}
-use Rattle.force_plan.specs.Plan.{cores_of}
+use Rattle.state.specs.State.{firsts, board_of, core_from}
 
 any_snoc : (cs : List Core) (c : Core) → any_leaving (cs ++ (c ∷ [])) ≡ any_leaving cs || leaving c
 unfolding any_leaving
@@ -47,14 +46,14 @@ module _ (g : ℕ → Core) where
       go false q r = rw (r (let z : i ≢ n = eqb-false i n q in omega arith))
 
 module _ (s : Sched) (i : ℕ) where
-  pub exit-leaves : get_or s.exits i false ≡ true → leaving (cores_of s i) ≡ true
+  pub exit-leaves : get_or s.marks.exits i false ≡ true → leaving (board_of s i) ≡ true
   unfolding leaving core_from
   exit-leaves e = rw e
 
-  pub block-leaves : get_or s.exits i false ≡ false → get_or s.blocks i false ≡ true → leaving (cores_of s i) ≡ true
+  pub block-leaves : get_or s.marks.exits i false ≡ false → get_or s.marks.blocks i false ≡ true → leaving (board_of s i) ≡ true
   unfolding leaving core_from
   block-leaves e f = rw (e, f)
 
-  pub stays : get_or s.exits i false ≡ false → get_or s.blocks i false ≡ false → leaving (cores_of s i) ≡ false
+  pub stays : get_or s.marks.exits i false ≡ false → get_or s.marks.blocks i false ≡ false → leaving (board_of s i) ≡ false
   unfolding leaving core_from
   stays e f = rw (e, f)

@@ -1,30 +1,29 @@
 // A forced switch: refused, or decided and written.
-ghost use Rattle.std.specs.Prelude.{◌≡◌, List, ℕ, ◌+◌, ◌<◌, ◌≤◌, ◌^◌, length};
+ghost use Rattle.std.specs.Prelude.{◌≡◌, ℕ, ◌≤◌, length, unwrap_or};
 ghost use Rattle.std.proofs.Math.Option.{Option};
-ghost use Rattle.model.specs.declared.ThreadInfo.{ThreadInfo};
 ghost use Rattle.model.specs.Reading.{option_tid_meant};
-ghost use Rattle.state.specs.Memory.{memory};
+ghost use Rattle.state.specs.Memory.{held, SameLoans};
 ghost use Rattle.state.specs.State.{Valid};
-ghost use Rattle.force_plan.specs.Plan.{AskedAt, ForceFits, ForcedOf, Forceable, ForcePending, forced_sched};
+ghost use Rattle.force_plan.specs.Plan.{AskedAt, ForceFits, ForcedOf, Forceable, ForcePending};
 
 use crate::check_force;
 use decide::force::{force_core, place_asked};
 use model::{CoreId, Tid};
 use queue::moves::Moves;
 use queue::ready::ReadyQueue;
+use state::memory::LentMemory;
 use state::{Sched, pack, unpack};
-use switches::switch_list;
+use switches::no_switches;
 use tick_plan::tick::write;
-use tick_plan::{Decided, Planned, Written, marks_of};
-use turns::Marks;
+use tick_plan::{Decided, Planned};
 
-// The place in the queue of the thread that is asked for; behind the last one where it is not there.
-fn place(s: Sched, named: Option<Tid>, queue: &[u32], prios: &[u32]) -> usize
+// The place in the queue of the thread that is asked for, where it is there.
+fn place(s: Sched, named: Option<Tid>, queue: &[u32], prios: &[u32]) -> Option<usize>
     requires { (s.queued ≤ length queue.now) × (s.threads ≤ length prios.now) }
-    ensures { AskedAt s (option_tid_meant named) queue.now prios.now result }
+    ensures { AskedAt s (option_tid_meant named) queue.now prios.now (unwrap_or result s.queued) }
 {
     let waiting = &queue[..s.queued];
-    place_asked(s.config.policy, &prios[..s.threads], waiting, named).unwrap_or(s.queued)
+    place_asked(s.config.policy, &prios[..s.threads], waiting, named)
 }
 
 // The core takes the thread at a place of the queue; the moves go to the first 80 words of the lanes.
@@ -32,7 +31,7 @@ fn plan(s: Sched, core: CoreId, at: usize, queue: &mut [u32], lanes: &mut [u64])
     requires { ForceFits s core.0 at queue.old lanes.old }
     ensures { ForcedOf s core.0 at queue.old queue.new lanes.old lanes.new result }
 {
-    let mut marks = marks_of(s);
+    let mut marks = s.marks;
     let mut ready = ReadyQueue {
         words: queue,
         len: s.queued,
@@ -54,56 +53,23 @@ fn plan(s: Sched, core: CoreId, at: usize, queue: &mut [u32], lanes: &mut [u64])
     Planned::new(pack(next), marks, ready.len, moves.count)
 }
 
-// The state after a forced switch.
-fn after_force(s: Sched, p: Planned, w: Written) -> Sched
-    requires { s.context_switches + w.takes < 2 ^ 64 }
-    ensures { result ≡ forced_sched s p w }
-{
-    let Planned {
-        states,
-        marks,
-        queued,
-        ..
-    } = p;
-    let Marks {
-        exits,
-        blocks,
-        yields,
-        progressed,
-    } = marks;
-    Sched {
-        queued,
-        context_switches: s.context_switches + w.takes,
-        states,
-        exits,
-        blocks,
-        yields,
-        progressed,
-        log: w.log,
-        ..s
-    }
-}
-
 // A forced switch that is not refused.
-fn force_taken(
-    s: Sched,
-    core: CoreId,
-    at: usize,
-    queue: &mut [u32],
-    log: &mut [u64],
-    lanes: &mut [u64],
-) -> Decided
-    requires { (named : Option ℕ) × ((ts : List ThreadInfo) × ((ps : List ℕ) × Forceable s core.0 named at ts queue.old ps log.old lanes.old)) }
-    ensures { (named : Option ℕ) (ts : List ThreadInfo) (ps : List ℕ)
-        → Forceable s core.0 named at ts queue.old ps log.old lanes.old
-        → ForcePending core.0 named result.answer result.switches s result.sched result.moves ts
-        queue.old queue.new ps log.old log.new lanes.old lanes.new }
+fn force_taken(s: Sched, core: CoreId, at: usize, m: &mut LentMemory) -> Decided
+    requires { (named : Option ℕ) × Forceable s core.0 named at (held m.old) }
+    ensures done { (named : Option ℕ) → Forceable s core.0 named at (held m.old)
+        → ForcePending core.0 named result.answer result.switches s result.sched result.moves (held m.old) (held m.new) }
+    ensures records { m.new.threads.now ≡ m.old.threads.now }
+    ensures prios { m.new.prios.now ≡ m.old.prios.now }
+    ensures lent { SameLoans m.old m.new }
 {
+    let queue = &mut *m.queue;
+    let log = &mut *m.log;
+    let lanes = &mut *m.lanes;
     let planned = plan(s, core, at, queue, lanes);
     // A forced switch takes no tick.
     let written = write(s, log, lanes, planned.moves, s.now);
     Decided {
-        sched: after_force(s, planned, written),
+        sched: planned.taken(s, written),
         answer: Ok(()),
         switches: written.switches,
         moves: planned.moves,
@@ -111,29 +77,23 @@ fn force_taken(
 }
 
 // All of a forced switch but what it does to the thread records.
-pub fn force_decided(
-    s: Sched,
-    core: CoreId,
-    named: Option<Tid>,
-    queue: &mut [u32],
-    prios: &[u32],
-    log: &mut [u64],
-    lanes: &mut [u64],
-) -> Decided
-    requires { (ts : List ThreadInfo) × Valid s (memory ts queue.old prios.now log.old lanes.old) }
-    ensures { (ts : List ThreadInfo) → Valid s (memory ts queue.old prios.now log.old lanes.old)
-        → ForcePending core.0 (option_tid_meant named) result.answer result.switches s result.sched result.moves ts
-        queue.old queue.new prios.now log.old log.new lanes.old lanes.new }
+pub fn force_decided(s: Sched, core: CoreId, named: Option<Tid>, m: &mut LentMemory) -> Decided
+    requires { Valid s (held m.old) }
+    ensures done { ForcePending core.0 (option_tid_meant named) result.answer result.switches s result.sched result.moves (held m.old) (held m.new) }
+    ensures records { m.new.threads.now ≡ m.old.threads.now }
+    ensures prios { m.new.prios.now ≡ m.old.prios.now }
+    ensures lent { SameLoans m.old m.new }
 {
+    let queue = &mut *m.queue;
+    let prios = &mut *m.prios;
     let at = place(s, named, queue, prios);
-    let answer = check_force(s, core, named, at);
-    match answer {
-        Err(_) => Decided {
+    match check_force(s, core, named, at) {
+        Err(refusal) => Decided {
             sched: s,
-            answer,
-            switches: switch_list(lanes, 0),
+            answer: Err(refusal),
+            switches: no_switches(),
             moves: 0,
         },
-        Ok(()) => force_taken(s, core, at, queue, log, lanes),
+        Ok(at) => force_taken(s, core, at, m),
     }
 }

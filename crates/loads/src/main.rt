@@ -8,6 +8,7 @@ use model::ThreadInfo;
 use records::change::first_thread;
 use settings::{Refusal, SchedConfig, SchedPolicy};
 use state::Capacities;
+use state::memory::LentMemory;
 use text::numbers::read_number;
 use text::{STDIN_FILENO, STDOUT_FILENO};
 use ticking::{Loaded, run_load};
@@ -39,9 +40,9 @@ fn main() {
 }
 
 fn load_of(text: &[u8]) -> Load {
-    let policy = policy_of(number_at(text, 0));
     let config = SchedConfig {
-        policy,
+        // a number above 3 is off
+        policy: SchedPolicy::numbered(number_at(text, 0)).unwrap_or(SchedPolicy::Off),
         quantum: number_at(text, 1),
         switch_cost: number_at(text, 2),
     };
@@ -51,15 +52,6 @@ fn load_of(text: &[u8]) -> Load {
         threads: number_at(text, 4),
         ticks: number_at(text, 5),
         repetitions: number_at(text, 6),
-    }
-}
-
-fn policy_of(n: u32) -> SchedPolicy {
-    match n {
-        1 => SchedPolicy::Fifo,
-        2 => SchedPolicy::RoundRobin,
-        3 => SchedPolicy::Priority,
-        _ => SchedPolicy::Off,
     }
 }
 
@@ -84,39 +76,34 @@ fn repeat(load: Load, threads: &mut [ThreadInfo]) -> Loaded {
     let mut prios = [0u32; 256];
     let mut log = [0u64; 1024];
     let mut lanes = [0u64; 65_616];
-    let mut last = once(load, threads, &mut queue, &mut prios, &mut log, &mut lanes);
+    let mut m = LentMemory {
+        threads,
+        queue: &mut queue,
+        prios: &mut prios,
+        log: &mut log,
+        lanes: &mut lanes,
+    };
+    let mut last = once(load, &mut m);
     for _ in 1..load.repetitions {
-        last = once(load, threads, &mut queue, &mut prios, &mut log, &mut lanes);
+        last = once(load, &mut m);
     }
     last
 }
 
-fn once(
-    load: Load,
-    threads: &mut [ThreadInfo],
-    queue: &mut [u32],
-    prios: &mut [u32],
-    log: &mut [u64],
-    lanes: &mut [u64],
-) -> Loaded {
+fn once(load: Load, m: &mut LentMemory) -> Loaded {
     let capacities = Capacities {
         threads: 256,
         events: 512,
         segments: 4096,
     };
-    let count = others(load.threads);
     let ticks = load.ticks as usize;
     run_load(
         load.config,
         load.cores,
         capacities,
-        count,
+        others(load.threads),
         ticks,
-        threads,
-        queue,
-        prios,
-        log,
-        lanes,
+        m,
     )
 }
 
@@ -126,11 +113,10 @@ fn others(threads: u32) -> usize {
 }
 
 fn report(last: Loaded, threads: &[ThreadInfo]) {
-    let sched = last.sched;
     let sums = sums_of(threads);
     print_number(b"refused=", refusal_of(last.made));
-    print_number(b"context_switches=", sched.context_switches);
-    print_number(b"now=", sched.now.0);
+    print_number(b"context_switches=", last.sched.context_switches);
+    print_number(b"now=", last.sched.now.0);
     print_number(b"ready_ticks=", sums.ready);
     print_number(b"run_ticks=", sums.run);
     print_number(b"preemptions=", sums.preemptions);
@@ -154,11 +140,10 @@ fn sums_of(threads: &[ThreadInfo]) -> Sums {
 }
 
 fn added(sums: Sums, t: ThreadInfo) -> Sums {
-    let stats = t.stats;
     Sums {
-        ready: sums.ready.wrapping_add(stats.ready_ticks),
-        run: sums.run.wrapping_add(stats.run_ticks),
-        preemptions: sums.preemptions.wrapping_add(stats.preemptions),
+        ready: sums.ready.wrapping_add(t.stats.ready_ticks),
+        run: sums.run.wrapping_add(t.stats.run_ticks),
+        preemptions: sums.preemptions.wrapping_add(t.stats.preemptions),
     }
 }
 

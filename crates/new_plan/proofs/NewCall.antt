@@ -36,7 +36,7 @@ use Rattle.rings.proofs.EntryLaws.{ring-empty, entries_none}
 use Rattle.state.specs.declared.Capacities.{Capacities}
 use Rattle.state.specs.declared.Sched.{Sched}
 use Rattle.state.specs.Memory.{memory, Unchanged}
-use Rattle.state.specs.State.{firsts, core_from, states_of, meant_at, no_ticks, no_pos, lane_start, lane_words, log_words, Valid}
+use Rattle.state.specs.State.{firsts, core_from, board_of, states_of, meant_at, no_ticks, no_pos, lane_start, lane_words, log_words, Valid}
 use Rattle.checks.specs.Check.{check_meant}
 use Rattle.walkkit.specs.Firsts as Walk
 use Rattle.walkkit.proofs.Firsts.{length-firsts, drop-firsts}
@@ -179,7 +179,7 @@ module _ (c : SchedConfig) (n : ℕ) (k : Capacities) (entry : ℕ) (ts : List T
     ps' = set ps 0 10
 
     abbrev own : ℕ → Core
-    own = core_from (states_of s.states) s.exits s.blocks s.yields s.progressed
+    own = board_of s
 
     own_first : own 0 ≡ cleared (Running 0 0) false false
     unfolding core_from first_sched

@@ -53,10 +53,7 @@ first_sched c n k =
       context_switches = 0;
       closed = false;
       states = others_idle (record { kind = 2; tid = 0; count = 0 });
-      exits = replicate 8 false;
-      blocks = replicate 8 false;
-      yields = replicate 8 false;
-      progressed = replicate 8 false;
+      marks = record { exits = replicate 8 false; blocks = replicate 8 false; yields = replicate 8 false; progressed = replicate 8 false };
       ticks = replicate 8 no_ticks;
       log = no_pos;
       lanes = replicate 8 no_pos;

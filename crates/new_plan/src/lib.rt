@@ -16,6 +16,7 @@ use rings::events::push_event;
 use settings::numbers::is_beyond;
 use settings::{Refusal, SchedConfig};
 use state::{Capacities, CoreWords, Sched, others_idle};
+use turns::Marks;
 
 // The state that `new` leaves, with its answer.
 #[derive(Clone, Copy)]
@@ -127,10 +128,12 @@ fn first_sched(config: SchedConfig, cores: u32, capacities: Capacities) -> Sched
         context_switches: 0,
         closed: false,
         states: others_idle(running),
-        exits: [false; 8],
-        blocks: [false; 8],
-        yields: [false; 8],
-        progressed: [false; 8],
+        marks: Marks {
+            exits: [false; 8],
+            blocks: [false; 8],
+            yields: [false; 8],
+            progressed: [false; 8],
+        },
         ticks: [none; 8],
         log: empty,
         lanes: [empty; 8],

@@ -22,7 +22,7 @@ use Rattle.turns.specs.Turns.{rules_of}
 use Rattle.state.specs.declared.CoreWords.{CoreWords}
 use Rattle.state.specs.declared.Eight.{Eight}
 use Rattle.state.specs.declared.Sched.{Sched}
-use Rattle.state.specs.State.{firsts, core_from, state_in, states_of}
+use Rattle.state.specs.State.{firsts, core_from, board_of, state_in, states_of}
 use Rattle.quiet.specs.Quiet.{calm_in, calm, is_priority, each_below, calm_at, is_quiet, sliced_below, state_at, Roomy}
 use Rattle.quiet.proofs.Resting.{still, decide-calm}
 use Rattle.quiet.proofs.Words.{calm-held, kept}
@@ -52,7 +52,7 @@ module _ (g : ℕ → Bool) where
 module _ (s : Sched) (rr : Bool) (q : ℕ) where
   -- what is tested of core j
   abbrev pub test_at : ℕ → Bool
-  test_at j = leb s.cores j || calm_in rr q (get_or s.exits j false) (get_or s.blocks j false) (get_or s.yields j false) (get_or s.progressed j false) (state_at s.states j)
+  test_at j = leb s.cores j || calm_in rr q (get_or s.marks.exits j false) (get_or s.marks.blocks j false) (get_or s.marks.yields j false) (get_or s.marks.progressed j false) (state_at s.states j)
 
   test-calm : (j : ℕ) → (leb s.cores j || calm_at s rr q j) ≡ test_at j
   unfolding calm core_from
@@ -133,7 +133,7 @@ module _ (s : Sched) (h : is_quiet s ≡ true) (r : Roomy s) where
   pub growing : (w : CoreWords) (j : ℕ) → get_or (states_of s.states) j CoreStateCases.Idle ≡ state_in w → Growing w j
   unfolding calm core_from
   growing w j e l =
-      calm-held w.kind w.tid w.count (is_preemptive (policy_meant s.config.policy)) s.config.quantum (core_from (states_of s.states) s.exits s.blocks s.yields s.progressed j).exits (core_from (states_of s.states) s.exits s.blocks s.yields s.progressed j).blocks (core_from (states_of s.states) s.exits s.blocks s.yields s.progressed j).yields (core_from (states_of s.states) s.exits s.blocks s.yields s.progressed j).progressed (rw e at (quiet_calm s h j l)) (rw e at (r j l))
+      calm-held w.kind w.tid w.count (is_preemptive (policy_meant s.config.policy)) s.config.quantum (board_of s j).exits (board_of s j).blocks (board_of s j).yields (board_of s j).progressed (rw e at (quiet_calm s h j l)) (rw e at (r j l))
 
 ---- the phases of a quiet state
 
@@ -143,10 +143,10 @@ all_firsts P g zero h = tt
 all_firsts P g (suc n) h = all_snoc P (firsts g n) (g n) (all_firsts P g n (λ j l. h j (omega arith))) (h n (omega arith))
 
 abbrev pub cores_of : Sched → List Core
-cores_of s = firsts (core_from (states_of s.states) s.exits s.blocks s.yields s.progressed) s.cores
+cores_of s = firsts (board_of s) s.cores
 
 pub decide-quiet :
     (s : Sched) → is_quiet s ≡ true → (ps q : List ℕ) → decide (rules_of s.config.policy s.config.quantum s.config.switch_cost ps) (cores_of s) q ≡ still (sliced_all (cores_of s)) q
 decide-quiet s h ps q =
     decide-calm (rules_of s.config.policy s.config.quantum s.config.switch_cost ps) (cores_of s) q (quiet-policy s h)
-    (all_firsts (λ (c : Core). calm (is_preemptive (policy_meant s.config.policy)) s.config.quantum c ≡ true) (core_from (states_of s.states) s.exits s.blocks s.yields s.progressed) s.cores (quiet_calm s h))
+    (all_firsts (λ (c : Core). calm (is_preemptive (policy_meant s.config.policy)) s.config.quantum c ≡ true) (board_of s) s.cores (quiet_calm s h))

@@ -6,8 +6,8 @@ use mathlib.Core.List.{List, [], ◌∷◌}
 use lib.Dec.{leb}
 use borrow.Author.Tests.{not-true}
 use Rattle.model.specs.Invariants.{All}
-use Rattle.model.specs.Types.{Policy, Off, Fifo, RoundRobin, Priority, CoreState, Idle, Switching, Running, Core}
-use Rattle.model.specs.Phases.{Rules, Pass, Phase, ascend, and_then, with_state, unmoved, sliced, switched_in, phase2, vacate, phase3, filled, phase4, quantum_of, quantum_over, hand_over, phase5, phase6, phases1_to4, decide, is_preemptive}
+use Rattle.model.specs.Types.{CoreState, Idle, Switching, Running, Core}
+use Rattle.model.specs.Phases.{Rules, Pass, Phase, ascend, and_then, with_state, unmoved, sliced, switched_in, phase2, vacate, phase3, filled, phase4, quantum_of, quantum_over, hand_over, phase5, phases1_to4, decide, is_preemptive}
 use Rattle.model.specs.Calls.{sliced_all}
 use Rattle.model.proofs.PhaseLaws.{not-both}
 use Rattle.model.proofs.PhaseLaws.{phase6-rests}

@@ -8,7 +8,7 @@ use Rattle.model.specs.declared.CoreState.TheVariants as CoreStateCases
 use Rattle.turns.specs.Turns.{Short}
 use Rattle.state.specs.declared.Eight.{Eight}
 use Rattle.state.specs.declared.Sched.{Sched}
-use Rattle.state.specs.State.{core_from, states_of}
+use Rattle.state.specs.State.{board_of, states_of}
 
 -- A core that keeps its thread. It is not "switching", not "idle", and runs a thread that has not "exited or blocked this tick" and that neither "yielded" nor,
 -- with the tick that phase 1 adds to its slice, reaches "slice ≥ quantum with its progressed mark set under rr or priority".
@@ -33,7 +33,7 @@ each_below g zero = true
 each_below g (suc n) = each_below g n && g n
 
 abbrev pub calm_at : Sched → (preemptive : Bool) (quantum : ℕ) → ℕ → Bool
-calm_at s pe q j = calm pe q (core_from (states_of s.states) s.exits s.blocks s.yields s.progressed j)
+calm_at s pe q j = calm pe q (board_of s j)
 
 -- every core keeps its thread
 unfoldable pub is_quiet : Sched → Bool

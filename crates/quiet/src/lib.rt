@@ -12,6 +12,7 @@ ghost use Rattle.quiet.specs.Quiet.{calm_in, calm_at, each_below, is_priority, i
 
 use settings::SchedPolicy;
 use state::{CoreWords, Eight, Sched};
+use turns::Marks;
 
 fn is_priority(policy: SchedPolicy) -> bool
     ensures { result ≡ is_priority (policy_meant policy) }
@@ -25,19 +26,9 @@ fn is_priority(policy: SchedPolicy) -> bool
 }
 
 // Whether core i of n keeps its thread; a core that is not there has none to lose.
-fn is_calm(
-    n: usize,
-    i: usize,
-    w: CoreWords,
-    exits: [bool; 8],
-    blocks: [bool; 8],
-    yields: [bool; 8],
-    progressed: [bool; 8],
-    preemptive: bool,
-    quantum: u32,
-) -> bool
+fn is_calm(n: usize, i: usize, w: CoreWords, marks: Marks, preemptive: bool, quantum: u32) -> bool
     requires { i < 8 }
-    ensures { result ≡ (leb n i || calm_in preemptive quantum (get_or exits i false) (get_or blocks i false) (get_or yields i false) (get_or progressed i false) (core_state_meant (state_in w))) }
+    ensures { result ≡ (leb n i || calm_in preemptive quantum (get_or marks.exits i false) (get_or marks.blocks i false) (get_or marks.yields i false) (get_or marks.progressed i false) (core_state_meant (state_in w))) }
 {
     if n <= i {
         return true;
@@ -45,19 +36,19 @@ fn is_calm(
     if w.kind < 2 {
         return false;
     }
-    if exits[i] {
+    if marks.exits[i] {
         return false;
     }
-    if blocks[i] {
+    if marks.blocks[i] {
         return false;
     }
-    if yields[i] {
+    if marks.yields[i] {
         return false;
     }
     if !preemptive {
         return true;
     }
-    if !progressed[i] {
+    if !marks.progressed[i] {
         return true;
     }
     w.count as u64 + 1 < quantum as u64
@@ -70,35 +61,32 @@ fn are_calm(s: Sched, rr: bool, q: u32) -> bool
 {
     let n = s.cores;
     let w = s.states;
-    let e = s.exits;
-    let b = s.blocks;
-    let y = s.yields;
-    let p = s.progressed;
-    if !is_calm(n, 0, w.c0, e, b, y, p, rr, q) {
+    let m = s.marks;
+    if !is_calm(n, 0, w.c0, m, rr, q) {
         return false;
     }
     if n == 1 {
         return true;
     }
-    if !is_calm(n, 1, w.c1, e, b, y, p, rr, q) {
+    if !is_calm(n, 1, w.c1, m, rr, q) {
         return false;
     }
-    if !is_calm(n, 2, w.c2, e, b, y, p, rr, q) {
+    if !is_calm(n, 2, w.c2, m, rr, q) {
         return false;
     }
-    if !is_calm(n, 3, w.c3, e, b, y, p, rr, q) {
+    if !is_calm(n, 3, w.c3, m, rr, q) {
         return false;
     }
-    if !is_calm(n, 4, w.c4, e, b, y, p, rr, q) {
+    if !is_calm(n, 4, w.c4, m, rr, q) {
         return false;
     }
-    if !is_calm(n, 5, w.c5, e, b, y, p, rr, q) {
+    if !is_calm(n, 5, w.c5, m, rr, q) {
         return false;
     }
-    if !is_calm(n, 6, w.c6, e, b, y, p, rr, q) {
+    if !is_calm(n, 6, w.c6, m, rr, q) {
         return false;
     }
-    is_calm(n, 7, w.c7, e, b, y, p, rr, q)
+    is_calm(n, 7, w.c7, m, rr, q)
 }
 
 // Whether every core keeps its thread. Phase 6 could still preempt under priority, so that policy is left to the phases.
@@ -106,12 +94,10 @@ pub fn is_quiet(s: Sched) -> bool
     requires { s.cores ≤ 8 }
     ensures { result ≡ is_quiet s }
 {
-    let config = s.config;
-    let policy = config.policy;
-    if is_priority(policy) {
+    if is_priority(s.config.policy) {
         return false;
     }
-    are_calm(s, policy.is_preemptive(), config.quantum)
+    are_calm(s, s.config.policy.is_preemptive(), s.config.quantum)
 }
 
 // Core i of n, one tick further; a core that is not there stays as it is.

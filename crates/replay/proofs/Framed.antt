@@ -1,5 +1,5 @@
 -- What no call changes: the capacities, the count of cores, and memory behind what these name.
-use Prim.Native.Nat.{ℕ, suc, pred, ◌+◌, ◌-◌, ◌*◌, ◌≤◌, max}
+use Prim.Native.Nat.{ℕ, suc, pred, ◌+◌, ◌-◌, ◌≤◌, max}
 use native.Mathlib.Omega.{arith}
 use mathlib.Core.Path.{◌≡◌, refl, sym, ap, subst, ◌∙◌}
 use mathlib.Core.Option.{Option, none, some}
@@ -8,7 +8,6 @@ use lib.ListN.{length, take, drop, get_elem?, length-map, length-take, length-re
 use lib.Seq.{drop-drop, length-take-le}
 use Rattle.settings.specs.declared.SchedConfig.{SchedConfig}
 use Rattle.settings.specs.Reading.{policy_meant}
-use Rattle.model.specs.declared.ThreadInfo.{ThreadInfo}
 use Rattle.model.specs.Types.{Policy, State}
 use Rattle.model.specs.Calls.{Call, spawn, exit, join, retired, yield, priority, timing, force, tick, close, JoinOutcome, Done, Wait, Invalid, Made, made, unmade, outcome, thread_state_of, tid_on, exited, blocking, refusal, accept, stepped, step, run, refused_new, initial_state, idle_core, made_of, new}
 use Rattle.model.specs.Reading.{thread_meant}
@@ -16,11 +15,12 @@ use Rattle.model.proofs.Bounded.{accept-cores}
 use Rattle.model.proofs.Placement.{queue-fits, threads-grow}
 use Rattle.state.specs.declared.Capacities.{Capacities}
 use Rattle.state.specs.declared.Sched.{Sched}
-use Rattle.state.specs.Memory.{Memory, memory}
-use Rattle.state.specs.State.{meant_at, Valid, lane_start}
+use Rattle.state.specs.Memory.{Memory}
+use Rattle.state.specs.State.{meant, meant_at, Valid, lane_start}
 use Rattle.state.specs.Done as D
 use Rattle.state.proofs.Firsts.{length-firsts}
 use Rattle.new_plan.specs.First.{core_count}
+use Rattle.new_plan.specs.Made.{NewTaken}
 use Rattle.replay.specs.Chain.{Link, Linked, last_sched, last_memory}
 use Rattle.replay.specs.Replay.{Behind}
 
@@ -73,10 +73,10 @@ pub record Alike (s t : Sched) : Type 0 where
   pub segments : t.capacities.segments ≡ s.capacities.segments
   pub cores : t.cores ≡ s.cores
 
-pub alike : (s t : Sched) (ts ts' : List ThreadInfo) (qs qs' ls ls' ws ws' : List ℕ) (cs : List Call) → meant_at t ts' qs' ls' ws' ≡ run (meant_at s ts qs ls ws) cs → Alike s t
+pub alike : (s t : Sched) (m m' : Memory) (cs : List Call) → meant t m' ≡ run (meant s m) cs → Alike s t
 unfolding meant_at
-alike s t ts ts' qs qs' ls ls' ws ws' cs e =
-    let h = fixed-run (meant_at s ts qs ls ws) cs in
+alike s t m m' cs e =
+    let h = fixed-run (meant s m) cs in
     record {
       threads = ap (λ (x : State). x.config.cap_t) e ∙ h.cap_t;
       events = ap (λ (x : State). x.config.cap_e) e ∙ h.cap_e;
@@ -91,34 +91,31 @@ drop-up i j l l' h e =
     let p : i + (j - i) ≡ j = omega arith in
     subst (λ (k : ℕ). drop k l' ≡ drop k l) p (sym (drop-drop (j - i) i l') ∙ ap (drop (j - i)) e ∙ drop-drop (j - i) i l)
 
-pub behind-none : (T E S c : ℕ) (ts : List ThreadInfo) (qs ps ls ws : List ℕ) → Behind T E S c (memory ts qs ps ls ws) (memory ts qs ps ls ws)
-behind-none T E S c ts qs ps ls ws = record { threads = refl; queue = refl; prios = refl; log = refl; lanes = refl }
+pub behind-none : {n E S c : ℕ} {m : Memory} → Behind n E S c m m
+behind-none = record { threads = refl; queue = refl; prios = refl; log = refl; lanes = refl }
 
 pub behind-then : {n E S c : ℕ} {m m' m'' : Memory} → Behind n E S c m m' → Behind n E S c m' m'' → Behind n E S c m m''
 behind-then h k = record { threads = k.threads ∙ h.threads; queue = k.queue ∙ h.queue; prios = k.prios ∙ h.prios; log = k.log ∙ h.log; lanes = k.lanes ∙ h.lanes }
 
-module _ (T E S c : ℕ) (ts ts' ts'' : List ThreadInfo) (qs qs' qs'' ps ps' ps'' ls ls' ls'' ws ws' ws'' : List ℕ) where
-  pub behind-both : Behind T E S c (memory ts qs ps ls ws) (memory ts' qs' ps' ls' ws') → Behind T E S c (memory ts' qs' ps' ls' ws') (memory ts'' qs'' ps'' ls'' ws'') → Behind T E S c (memory ts qs ps ls ws) (memory ts'' qs'' ps'' ls'' ws'')
-  behind-both = behind-then
+-- what one call leaves, behind n threads
+pub behind-at : (s t : Sched) (m m' : Memory) (n : ℕ) → s.queued ≤ n → t.queued ≤ n → t.threads ≤ n → D.Frame s t m m' → Behind n s.capacities.events s.capacities.segments s.cores m m'
+behind-at s t m m' n waits waits' used f =
+    record {
+      threads = drop-up t.threads n m.threads m'.threads used f.threads;
+      queue = drop-up (max s.queued t.queued) n m.queue m'.queue (omega arith) f.queue;
+      prios = drop-up t.threads n m.prios m'.prios used f.prios;
+      log = f.log;
+      lanes = f.lanes;
+    }
 
-module _ (s t : Sched) (ts ts' : List ThreadInfo) (qs qs' ps ps' ls ls' ws ws' : List ℕ) where
-  -- what one call leaves, behind n threads
-  pub behind-at : (n E S c : ℕ) → s.queued ≤ n → t.queued ≤ n → t.threads ≤ n → E ≡ s.capacities.events → S ≡ s.capacities.segments → c ≡ s.cores
-      → D.Frame s t (memory ts qs ps ls ws) (memory ts' qs' ps' ls' ws') → Behind n E S c (memory ts qs ps ls ws) (memory ts' qs' ps' ls' ws')
-  behind-at n E S c waits waits' used eE eS ec f =
-      record {
-        threads = drop-up t.threads n ts ts' used f.threads;
-        queue = drop-up (max s.queued t.queued) n qs qs' (omega arith) f.queue;
-        prios = drop-up t.threads n ps ps' used f.prios;
-        log = subst (λ (x : ℕ). drop (2 * x) ls' ≡ drop (2 * x) ls) (sym eE) f.log;
-        lanes = subst (λ (x : ℕ). drop (lane_start S x) ws' ≡ drop (lane_start S x) ws) (sym ec) (subst (λ (x : ℕ). drop (lane_start x s.cores) ws' ≡ drop (lane_start x s.cores) ws) (sym eS) f.lanes);
-      }
+-- and behind the capacity
+pub behind-call : (s t : Sched) (m m' : Memory) → Alike s t → Valid s m → Valid t m' → D.Frame s t m m' → Behind s.capacities.threads s.capacities.events s.capacities.segments s.cores m m'
+behind-call s t m m' a v v' = behind-at s t m m' s.capacities.threads v.sizes.waiting (omega (arith, a.threads, v'.sizes.waiting)) (omega (arith, a.threads, v'.sizes.in_use))
 
-  -- and behind the capacity, at the capacities of a state that has the same
-  pub behind-call : (T E S c : ℕ) → T ≡ s.capacities.threads → E ≡ s.capacities.events → S ≡ s.capacities.segments → c ≡ s.cores → Alike s t
-      → Valid s (memory ts qs ps ls ws) → Valid t (memory ts' qs' ps' ls' ws') → D.Frame s t (memory ts qs ps ls ws) (memory ts' qs' ps' ls' ws') → Behind T E S c (memory ts qs ps ls ws) (memory ts' qs' ps' ls' ws')
-  behind-call T E S c eT eE eS ec a v v' =
-      behind-at T E S c (omega (arith, eT, v.sizes.waiting)) (omega (arith, eT, a.threads, v'.sizes.waiting)) (omega (arith, eT, a.threads, v'.sizes.in_use)) eE eS ec
+-- at the capacities of a state that has the same
+pub behind-alike : {s t : Sched} {m m' : Memory} → Alike s t → Behind t.capacities.threads t.capacities.events t.capacities.segments t.cores m m'
+    → Behind s.capacities.threads s.capacities.events s.capacities.segments s.cores m m'
+behind-alike a b = rw (← a.threads, ← a.events, ← a.segments, ← a.cores) b
 
 ---- over a chain
 
@@ -126,22 +123,22 @@ module _ (s t : Sched) (ts ts' : List ThreadInfo) (qs qs' ps ps' ls ls' ws ws' :
 pub queued-threads : (s : Sched) (m : Memory) → Valid s m → s.queued ≤ s.threads
 unfolding meant_at
 queued-threads s m v =
-    let a = queue-fits (meant_at s m.threads m.queue m.log m.lanes) v.bounded.placed in
+    let a = queue-fits (meant s m) v.bounded.placed in
     let b = length-take-le s.queued m.queue (omega (arith, v.sizes.waiting, v.sizes.queue)) in
     let c = length-map (take s.threads m.threads) thread_meant in
     let d = length-take-le s.threads m.threads (omega (arith, v.sizes.in_use, v.sizes.threads)) in
     omega (arith, a, b, c, d)
 
 -- threads are made and never unmade
-pub threads-kept : (s t : Sched) (m m' : Memory) (c : Call) → Valid s m → Valid t m' → meant_at t m'.threads m'.queue m'.log m'.lanes ≡ (step (meant_at s m.threads m.queue m.log m.lanes) c).state → s.threads ≤ t.threads
+pub threads-kept : (s t : Sched) (m m' : Memory) (c : Call) → Valid s m → Valid t m' → meant t m' ≡ (step (meant s m) c).state → s.threads ≤ t.threads
 unfolding meant_at
 threads-kept s t m m' c v v' e =
-    let g = threads-grow (meant_at s m.threads m.queue m.log m.lanes) c in
+    let g = threads-grow (meant s m) c in
     let a = length-map (take s.threads m.threads) thread_meant in
     let b = length-take-le s.threads m.threads (omega (arith, v.sizes.in_use, v.sizes.threads)) in
     let a' = length-map (take t.threads m'.threads) thread_meant in
     let b' = length-take-le t.threads m'.threads (omega (arith, v'.sizes.in_use, v'.sizes.threads)) in
-    let f : length (map thread_meant (take t.threads m'.threads)) ≡ length (step (meant_at s m.threads m.queue m.log m.lanes) c).state.accounts.threads = ap (λ (x : State). length x.accounts.threads) e in
+    let f : length (map thread_meant (take t.threads m'.threads)) ≡ length (step (meant s m) c).state.accounts.threads = ap (λ (x : State). length x.accounts.threads) e in
     omega (arith, g, a, b, a', b', f)
 
 pub linked-threads : (s : Sched) (m : Memory) (ls : List Link) → Valid s m → Linked s m ls → s.threads ≤ (last_sched s ls).threads
@@ -156,16 +153,15 @@ unfolding run
 run-one s c = refl
 
 pub linked-behind : (s : Sched) (m : Memory) (ls : List Link) → Valid s m → Linked s m ls → Behind (last_sched s ls).threads s.capacities.events s.capacities.segments s.cores m (last_memory m ls)
-linked-behind s m [] v h = behind-none s.threads s.capacities.events s.capacities.segments s.cores m.threads m.queue m.prios m.log m.lanes
+linked-behind s m [] v h = behind-none
 linked-behind s m (l ∷ ls) v h =
     let t = l.sched in
     let w = l.memory in
     let v' = h.0.valid in
-    let same : Alike s t = alike s t m.threads w.threads m.queue w.queue m.log w.log m.lanes w.lanes (l.call ∷ []) (h.0.state ∙ sym (run-one _ l.call)) in
+    let same : Alike s t = alike s t m w (l.call ∷ []) (h.0.state ∙ sym (run-one _ l.call)) in
     let kept = threads-kept s t m w l.call v v' h.0.state in
     let more = linked-threads t w ls v' h.1 in
-    let one = behind-at s t m.threads w.threads m.queue w.queue m.prios w.prios m.log w.log m.lanes w.lanes (last_sched t ls).threads s.capacities.events s.capacities.segments s.cores
-    (omega (arith, queued-threads s m v, kept, more)) (omega (arith, queued-threads t w v', more)) more refl refl refl h.0.frame in
+    let one = behind-at s t m w (last_sched t ls).threads (omega (arith, queued-threads s m v, kept, more)) (omega (arith, queued-threads t w v', more)) more h.0.frame in
     let others : Behind (last_sched t ls).threads s.capacities.events s.capacities.segments s.cores w (last_memory w ls) = rw (← same.events, ← same.segments, ← same.cores) (linked-behind t w ls v' h.1) in
     behind-then one others
 
@@ -186,35 +182,42 @@ new-state p q w n t e c entry s h = go (refused_new q w n t e c) h
     go (some m) es = absurd (let z : ◌≡◌ {A = ℕ} 0 1 = cc in omega arith)
     go none es = ap state_of es
 
-module _ (c : SchedConfig) (n : ℕ) (k : Capacities) (entry : ℕ) (m : Sched) (ts ts₁ : List ThreadInfo) (qs ps ps₁ ls ls₁ ws : List ℕ) (e : new (policy_meant c.policy) c.quantum c.switch_cost n k.threads k.events k.segments entry ≡ made (meant_at m ts₁ qs ls₁ ws)) where
-  first-is : initial_state (pred n) entry (record { policy = policy_meant c.policy; quantum = c.quantum; cost = c.switch_cost; cap_t = k.threads; cap_e = k.events; cap_s = k.segments }) ≡ meant_at m ts₁ qs ls₁ ws
-  first-is = new-state (policy_meant c.policy) c.quantum c.switch_cost n k.threads k.events k.segments entry (meant_at m ts₁ qs ls₁ ws) e
+module _ {c : SchedConfig} {n : ℕ} {k : Capacities} {entry : ℕ} {m m₁ : Memory} {s : Sched} (z : NewTaken c n k entry m m₁ s) where
+  first-is : initial_state (pred n) entry (record { policy = policy_meant c.policy; quantum = c.quantum; cost = c.switch_cost; cap_t = k.threads; cap_e = k.events; cap_s = k.segments }) ≡ meant s m₁
+  first-is = new-state (policy_meant c.policy) c.quantum c.switch_cost n k.threads k.events k.segments entry (meant s m₁) z.state
 
-  pub first-threads : k.threads ≡ m.capacities.threads
+  pub first-threads : k.threads ≡ s.capacities.threads
   unfolding initial_state meant_at
   first-threads = ap (λ (x : State). x.config.cap_t) first-is
 
-  pub first-events : k.events ≡ m.capacities.events
+  pub first-events : k.events ≡ s.capacities.events
   unfolding initial_state meant_at
   first-events = ap (λ (x : State). x.config.cap_e) first-is
 
-  pub first-segments : k.segments ≡ m.capacities.segments
+  pub first-segments : k.segments ≡ s.capacities.segments
   unfolding initial_state meant_at
   first-segments = ap (λ (x : State). x.config.cap_s) first-is
 
-  pub first-cores : core_count n ≡ m.cores
+  pub first-cores : core_count n ≡ s.cores
   unfolding initial_state meant_at core_count
-  first-cores = sym (ap suc (length-replicate (pred n) idle_core)) ∙ ap (λ (x : State). length x.cores) first-is ∙ length-firsts _ m.cores
+  first-cores = sym (ap suc (length-replicate (pred n) idle_core)) ∙ ap (λ (x : State). length x.cores) first-is ∙ length-firsts _ s.cores
 
   -- thread 0 is there
-  pub first_one : 1 ≤ m.threads
+  pub first_one : 1 ≤ s.threads
   unfolding initial_state meant_at
-  first_one = omega (arith, ap (λ (x : State). length x.accounts.threads) first-is, length-map (take m.threads ts₁) thread_meant, length-take m.threads ts₁)
+  first_one = omega (arith, ap (λ (x : State). length x.accounts.threads) first-is, length-map (take s.threads m₁.threads) thread_meant, length-take s.threads m₁.threads)
 
-  pub first_some : Valid m (memory ts₁ qs ps₁ ls₁ ws) → 1 ≤ k.threads
+  pub first_some : 1 ≤ k.threads
   unfolding meant_at
-  first_some v = subst (λ (x : ℕ). 1 ≤ x) (sym first-threads) v.bounded.settings.cap_t
+  first_some = subst (λ (x : ℕ). 1 ≤ x) (sym first-threads) z.valid.bounded.settings.cap_t
 
   -- it writes the first record and priority, and the log
-  pub behind-new : (i : ℕ) → 1 ≤ i → drop 1 ts₁ ≡ drop 1 ts → drop 1 ps₁ ≡ drop 1 ps → drop (2 * k.events) ls₁ ≡ drop (2 * k.events) ls → Behind i k.events k.segments (core_count n) (memory ts qs ps ls ws) (memory ts₁ qs ps₁ ls₁ ws)
-  behind-new i pos a b d = record { threads = drop-up 1 i ts ts₁ pos a; queue = refl; prios = drop-up 1 i ps ps₁ pos b; log = d; lanes = refl }
+  pub behind-new : (i : ℕ) → 1 ≤ i → Behind i k.events k.segments (core_count n) m m₁
+  behind-new i pos =
+      record {
+        threads = drop-up 1 i m.threads m₁.threads pos z.threads;
+        queue = ap (drop i) z.queue;
+        prios = drop-up 1 i m.prios m₁.prios pos z.prios;
+        log = z.log;
+        lanes = ap (drop (lane_start k.segments (core_count n))) z.lanes;
+      }

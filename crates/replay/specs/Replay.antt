@@ -1,9 +1,8 @@
 -- Demand 3: what a list of calls leaves, on a scheduler that `new` made.
-use Rattle.std.specs.Prelude.{ℕ, ◌*◌, ◌/◌, min, ◌≡◌, List, [], ◌∷◌, map, length, take, drop}
+use Rattle.std.specs.Prelude.{ℕ, ◌*◌, min, ◌≡◌, List, [], ◌∷◌, map, length, take, drop}
 use Rattle.std.proofs.Math.Option.{Option, none, some}
 use Rattle.settings.specs.declared.SchedConfig.{SchedConfig}
 use Rattle.settings.specs.Reading.{policy_meant}
-use Rattle.model.specs.declared.ThreadInfo.{ThreadInfo}
 use Rattle.model.specs.Types.{State}
 use Rattle.model.specs.Calls.{Call, Answer, ok, step, run, new, made}
 use Rattle.guarantees.specs.Claims.{unobserved, observe_all}
@@ -16,7 +15,6 @@ use Rattle.new_plan.specs.First.{core_count, new_refusal}
 use Rattle.sched.specs.declared.Applied.{Applied}
 use Rattle.replay.specs.declared.Replayed.{Replayed}
 use Rattle.sched.specs.Meant.{outcome_meant}
-use Rattle.replay.specs.Encoding.{calls_of}
 use Rattle.replay.specs.Chain.{Link, Linked, Guaranteed, last_sched, last_memory, last_said}
 
 -- the definition's answer to the last of these calls, from the state s on; a where there is none
@@ -24,10 +22,10 @@ unfoldable pub last_answer : Answer → State → List Call → Answer
 last_answer a s [] = a
 last_answer a s (c ∷ cs) = last_answer (step s c).answer (step s c).state cs
 
--- how many calls are due of a list of so many words: none where `new` is refused
-abbrev pub due : Option ℕ → (words upto : ℕ) → ℕ
-due (some m) w u = 0
-due none w u = min u (w / 3)
+-- how many calls are due of a list of so many: none where `new` is refused
+abbrev pub due : Option ℕ → (count upto : ℕ) → ℕ
+due (some m) n u = 0
+due none n u = min u n
 
 -- memory behind what n threads, E events and S segments on each of c cores take; a queue holds no more threads than there are
 pub record Behind (n E S c : ℕ) (m m' : Memory) : Type 0 where
@@ -57,7 +55,7 @@ pub record ReplayTaken (c : SchedConfig) (n : ℕ) (k : Capacities) (entry : ℕ
   pub state : meant r.sched m' ≡ run start (take upto cs)
   -- "the program's answers, switch lists": the answer to the last of these calls, a tick's or a force's with its switch list
   pub answer : outcome_meant r.outcome r.switches ≡ last_answer ok start (take upto cs)
-  -- the list in words is that answer's: its count is the length of the definition's list, 0 where there is none
+  -- the list is that answer's: its count is the length of the definition's list, 0 where there is none
   pub list : ListFor (last_answer ok start (take upto cs)) r.switches
   -- "each call gets what the one before left": it is all that a call asks
   pub valid : Valid r.sched m'
@@ -68,11 +66,11 @@ pub record ReplayTaken (c : SchedConfig) (n : ℕ) (k : Capacities) (entry : ℕ
   -- of the whole list, as far as one likes to look
   pub guarantees : Guaranteed c n start cs
 
--- What `replay` promises. The words are any list and `upto` is any number, so this speaks of the state and of the answer after `new` and after every call of every list.
+-- What `replay` promises. The calls `cs` are any list and `upto` is any number, so this speaks of the state and of the answer after `new` and after every call of every list.
 -- c, n, k and entry are the arguments of `new`; m is the lent memory before and m' after; r is the result.
-pub record ReplayDone (c : SchedConfig) (n : ℕ) (k : Capacities) (entry : ℕ) (words : List ℕ) (upto : ℕ) (m m' : Memory) (r : Replayed) : Type 0 where
+pub record ReplayDone (c : SchedConfig) (n : ℕ) (k : Capacities) (entry : ℕ) (cs : List Call) (upto : ℕ) (m m' : Memory) (r : Replayed) : Type 0 where
   -- "`new` checks 1, 2, 3."
   pub answer : check_meant r.made ≡ new_refusal c n k (length m.threads) (length m.queue) (length m.prios) (length m.log) (length m.lanes)
   -- refused, it makes no scheduler: no call is made, nothing is written, and there is no switch list; the state and the outcome that r holds are then left open
   pub refused : (i : ℕ) → check_meant r.made ≡ some i → Unchanged m m' × (r.switches ≡ no_switches)
-  pub taken : check_meant r.made ≡ none → ReplayTaken c n k entry (calls_of words) upto m m' r
+  pub taken : check_meant r.made ≡ none → ReplayTaken c n k entry cs upto m m' r

@@ -4,13 +4,13 @@
 
 pub mod answers;
 
-ghost use Rattle.state.specs.Memory.{memory};
+ghost use Rattle.state.specs.Memory.{held, SameLoans};
 ghost use Rattle.state.specs.State.{Valid};
 ghost use Rattle.tick_plan.specs.DoneWith.{DoneWith};
 ghost use Rattle.sched.specs.Meant.{call_meant, outcome_meant};
 
 use answers::{of_answered, of_taken, of_ticked};
-use model::{CoreId, JoinOutcome, ThreadInfo, Tid};
+use model::{CoreId, JoinOutcome, Tid};
 use sched_close::close;
 use sched_exit::exit;
 use sched_force::force_switch;
@@ -19,6 +19,7 @@ use sched_threads::{join, set_priority, spawn, yield_now};
 use sched_tick::end_tick;
 use settings::Refusal;
 use state::Sched;
+use state::memory::LentMemory;
 use switches::SwitchList;
 
 // A call with its arguments.
@@ -54,26 +55,20 @@ pub struct Applied {
 }
 
 // The call is done on the state and the lent memory, as the definition's `step` does it.
-pub fn apply(
-    s: Sched,
-    call: Call,
-    threads: &mut [ThreadInfo],
-    queue: &mut [u32],
-    prios: &mut [u32],
-    log: &mut [u64],
-    lanes: &mut [u64],
-) -> Applied
-    requires { Valid s (memory threads.old queue.old prios.old log.old lanes.old) }
-    ensures { DoneWith (call_meant call) (outcome_meant result.outcome result.switches) result.switches s result.sched
-        (memory threads.old queue.old prios.old log.old lanes.old)
-        (memory threads.new queue.new prios.new log.new lanes.new) }
+pub fn apply(s: Sched, call: Call, m: &mut LentMemory) -> Applied
+    requires { Valid s (held m.old) }
+    ensures done { DoneWith (call_meant call) (outcome_meant result.outcome result.switches) result.switches s result.sched (held m.old) (held m.new) }
+    ensures lent { SameLoans m.old m.new }
 {
+    let threads = &mut *m.threads;
+    let queue = &mut *m.queue;
+    let prios = &mut *m.prios;
+    let log = &mut *m.log;
+    let lanes = &mut *m.lanes;
     match call {
         Call::Spawn(parent, entry_pc) => {
-            of_answered(
-                spawn(s, parent, entry_pc, threads, queue, prios, log),
-                Outcome::Spawned,
-            )
+            let a = spawn(s, parent, entry_pc, threads, queue, prios, log);
+            of_answered(a, Outcome::Spawned)
         }
         // Here and at `Close` a copy: the callee is not inlined and takes its address. Without it every call would store the state first.
         Call::Exit(core) => {
@@ -87,10 +82,8 @@ pub fn apply(
             of_taken(set_priority(s, tid, number, threads, prios, log))
         }
         Call::SetTiming(quantum, switch_cost) => { of_taken(set_timing(s, quantum, switch_cost)) }
-        Call::ForceSwitch(core, named) => {
-            of_ticked(force_switch(s, core, named, threads, queue, prios, log, lanes))
-        }
-        Call::EndTick => of_ticked(end_tick(s, threads, queue, prios, log, lanes)),
+        Call::ForceSwitch(core, named) => of_ticked(force_switch(s, core, named, m)),
+        Call::EndTick => of_ticked(end_tick(s, m)),
         Call::Close(core) => {
             let t = s;
             of_taken(close(t, core, threads, queue, log, lanes))

@@ -16,7 +16,7 @@ use Rattle.model.specs.Calls.{Answer, ok, accept, retired, timing, mark_progress
 use Rattle.model.proofs.Refusals.{check-none}
 use Rattle.state.specs.declared.Sched.{Sched}
 use Rattle.state.specs.Memory.{memory}
-use Rattle.state.specs.State.{firsts, core_from, states_of, meant_at, Marks, Valid}
+use Rattle.state.specs.State.{firsts, core_from, states_of, meant_at, MarksOK, Valid}
 use Rattle.state.specs.Done.{Done}
 use Rattle.state.proofs.Doing.{done-taken}
 use Rattle.checks.specs.Check.{retired_refusal, timing_refusal}
@@ -30,10 +30,10 @@ unfolding retired_refusal
 retired-place s i h = leb-false s.cores i (check-none 4 _ _ h)
 
 module _ (s : Sched) (ts : List ThreadInfo) (qs ps ls ws : List ℕ) (v : Valid s (memory ts qs ps ls ws)) where
-  retired-done : (i : ℕ) (a : Answer) → a ≡ ok → retired_refusal s i ≡ none → Done (retired i) a s (with_progressed (set s.progressed i true) s) (memory ts qs ps ls ws) (memory ts qs ps ls ws)
+  retired-done : (i : ℕ) (a : Answer) → a ≡ ok → retired_refusal s i ≡ none → Done (retired i) a s (with_progressed (set s.marks.progressed i true) s) (memory ts qs ps ls ws) (memory ts qs ps ls ws)
   unfolding accept meant_at core_from
   retired-done i a e h =
-      done-taken (retired i) s ts qs ps ls ws v a (with_progressed (set s.progressed i true) s) ts qs ps ls ws (retired-refusal s ts qs ls ws i ∙ h)
+      done-taken (retired i) s ts qs ps ls ws v a (with_progressed (set s.marks.progressed i true) s) ts qs ps ls ws (retired-refusal s ts qs ls ws i ∙ h)
       (ap (λ (cs : List Core). record { config = (meant_at s ts qs ls ws).config; cores = cs; queue = (meant_at s ts qs ls ws).queue; accounts = (meant_at s ts qs ls ws).accounts; now = s.now.0; closed = s.closed }) marked)
       e (ok-unrefused a e) v.sizes v.rings marks v.words v.ticks v.priorities
       (record { threads = refl; queue = refl; prios = refl; log = refl; lanes = refl; ticks = λ j k. refl; places = λ j k. refl })
@@ -42,19 +42,19 @@ module _ (s : Sched) (ts : List ThreadInfo) (qs ps ls ws : List ℕ) (v : Valid 
       l = retired-place s i h
 
       g : List Bool → ℕ → Core
-      g p = core_from (states_of s.states) s.exits s.blocks s.yields p
+      g p = core_from (states_of s.states) s.marks.exits s.marks.blocks s.marks.yields p
 
-      n : i < length s.progressed
+      n : i < length s.marks.progressed
       n = let a = v.marks.progressed in let b = v.sizes.cores in omega (arith, l)
 
       with-mark : ℕ → Bool → Core
-      with-mark j b = record { state = (g s.progressed j).state; exits = (g s.progressed j).exits; blocks = (g s.progressed j).blocks; yields = (g s.progressed j).yields; progressed = b }
+      with-mark j b = record { state = (g s.marks.progressed j).state; exits = (g s.marks.progressed j).exits; blocks = (g s.marks.progressed j).blocks; yields = (g s.marks.progressed j).yields; progressed = b }
 
-      marked : firsts (g (set s.progressed i true)) s.cores ≡ update i mark_progress (firsts (g s.progressed) s.cores)
-      marked = firsts-update (g s.progressed) (g (set s.progressed i true)) mark_progress s.cores i idle_core l
-          (ap (λ (b : Bool). with-mark i b) (get_or-set_same s.progressed i true false n)) (λ j d. ap (λ (b : Bool). with-mark j b) (get_or-set_other s.progressed i j true false d))
+      marked : firsts (g (set s.marks.progressed i true)) s.cores ≡ update i mark_progress (firsts (g s.marks.progressed) s.cores)
+      marked = firsts-update (g s.marks.progressed) (g (set s.marks.progressed i true)) mark_progress s.cores i idle_core l
+          (ap (λ (b : Bool). with-mark i b) (get_or-set_same s.marks.progressed i true false n)) (λ j d. ap (λ (b : Bool). with-mark j b) (get_or-set_other s.marks.progressed i j true false d))
 
-      marks : Marks s.cores (states_of s.states) s.exits s.blocks s.yields (set s.progressed i true)
+      marks : MarksOK s.cores (states_of s.states) (record s.marks { progressed = set s.marks.progressed i true })
       marks =
           let m = v.marks in
           record {
@@ -62,10 +62,10 @@ module _ (s : Sched) (ts : List ThreadInfo) (qs ps ls ws : List ℕ) (v : Valid 
             blocks = m.blocks;
             yields = m.yields;
             progressed = simp length-set m.progressed;
-            unused = λ j k. ap (λ (b : Bool). with-mark j b) (get_or-set_other s.progressed i j true false (λ z. omega (arith, l))) ∙ m.unused j k;
+            unused = λ j k. ap (λ (b : Bool). with-mark j b) (get_or-set_other s.marks.progressed i j true false (λ z. omega (arith, l))) ∙ m.unused j k;
           }
 
-  pub retired-taken : (i : ℕ) (a : Answer) (marks : List Bool) → marks ≡ set s.progressed i true → a ≡ ok → retired_refusal s i ≡ none → Done (retired i) a s (with_progressed marks s) (memory ts qs ps ls ws) (memory ts qs ps ls ws)
+  pub retired-taken : (i : ℕ) (a : Answer) (marks : List Bool) → marks ≡ set s.marks.progressed i true → a ≡ ok → retired_refusal s i ≡ none → Done (retired i) a s (with_progressed marks s) (memory ts qs ps ls ws) (memory ts qs ps ls ws)
   retired-taken i a marks m e h = subst (λ (p : List Bool). Done (retired i) a s (with_progressed p s) (memory ts qs ps ls ws) (memory ts qs ps ls ws)) (sym m) (retired-done i a e h)
 
   pub timing-taken : (q w : ℕ) (k : SchedConfig) (a : Answer) → a ≡ ok → timing_refusal s q w ≡ none → k.policy ≡ s.config.policy → k.quantum ≡ max q 1 → k.switch_cost ≡ w → Done (timing q w) a s (with_config k s) (memory ts qs ps ls ws) (memory ts qs ps ls ws)

@@ -28,7 +28,7 @@ pub fn retired(s: Sched, core: CoreId) -> Answered<()>
             answer,
         },
         Ok(()) => {
-            next.progressed = with_mark(s.progressed, core.0 as usize);
+            next.marks.progressed = with_mark(s.marks.progressed, core.0 as usize);
             Answered {
                 sched: next,
                 answer,

@@ -1,7 +1,7 @@
 -- How a call's promise is made: refused, or taken with the state's equation and what fits; that the counters stay within bounds is the definition's.
 use Prim.Native.Nat.{ℕ}
-use mathlib.Core.Path.{◌≡◌, refl, sym, ap, ◌∙◌, subst}
-use mathlib.Core.Option.{Option, none, some}
+use mathlib.Core.Path.{◌≡◌, refl, sym, subst}
+use mathlib.Core.Option.{none, some}
 use mathlib.Core.List.{List, map}
 use lib.ListN.{length, take}
 use Rattle.model.specs.Invariants.{Bounded}
@@ -11,8 +11,8 @@ use Rattle.model.specs.Calls.{Call, Answer, refused, refusal, accept, stepped, s
 use Rattle.model.proofs.Bounded.{bounded-accept}
 use Rattle.state.specs.declared.Sched.{Sched}
 use Rattle.state.specs.Memory.{memory}
-use Rattle.state.specs.State.{states_of, packed, meant_at, Sizes, Rings, Marks, Valid}
-use Rattle.state.specs.Done.{Frame, Same, Done}
+use Rattle.state.specs.State.{states_of, packed, meant_at, Sizes, Rings, MarksOK, Valid}
+use Rattle.state.specs.Done.{Frame, Done}
 
 module _ (c : Call) (s : Sched) (ts : List ThreadInfo) (qs ps ls ws : List ℕ) (v : Valid s (memory ts qs ps ls ws)) where
   abbrev M : State
@@ -36,7 +36,7 @@ module _ (c : Call) (s : Sched) (ts : List ThreadInfo) (qs ps ls ws : List ℕ) 
   pub done-taken :
       (a : Answer) (s' : Sched) (ts' : List ThreadInfo) (qs' ps' ls' ws' : List ℕ) → refusal M c ≡ none → meant_at s' ts' qs' ls' ws' ≡ (accept M c).state → a ≡ (accept M c).answer → Unrefused a
       → Sizes s'.capacities s'.cores s'.threads s'.queued (memory ts' qs' ps' ls' ws') → Rings s'.capacities s'.cores s'.log s'.lanes ls' ws'
-      → Marks s'.cores (states_of s'.states) s'.exits s'.blocks s'.yields s'.progressed → s'.states ≡ packed (states_of s'.states) → length s'.ticks ≡ 8
+      → MarksOK s'.cores (states_of s'.states) s'.marks → s'.states ≡ packed (states_of s'.states) → length s'.ticks ≡ 8
       → take s'.threads ps' ≡ map (λ (t : ThreadRecord). t.priority) (meant_at s' ts' qs' ls' ws').accounts.threads → Frame s s' (memory ts qs ps ls ws) (memory ts' qs' ps' ls' ws')
       → Done c a s s' (memory ts qs ps ls ws) (memory ts' qs' ps' ls' ws')
   unfolding step stepped

@@ -1,9 +1,10 @@
 -- The lent memory as one value: what the five slices hold, which a host lends "always in this order".
---     memory           of five lists.        lent             of five references, where they are read
+--     memory           of five lists.        held             of the program's struct of five slices
 --     Unchanged m m'   nothing was written
 use Rattle.std.specs.Prelude.{ℕ, ◌≡◌, List}
-use Rattle.std.specs.Borrow.{Bor}
 use Rattle.model.specs.declared.ThreadInfo.{ThreadInfo}
+use Rattle.text.specs.Buffers.{StillLent}
+use Rattle.state.specs.declared.memory.LentMemory.{LentMemory}
 
 pub record Memory : Type 0 where
   -- "The thread records are a lent slice of records, in thread order."
@@ -19,8 +20,17 @@ pub record Memory : Type 0 where
 abbrev pub memory : List ThreadInfo → (queue prios log lanes : List ℕ) → Memory
 memory ts qs ps ls ws = record { threads = ts; queue = qs; prios = ps; log = ls; lanes = ws }
 
-abbrev pub lent : Bor (List ThreadInfo) → (queue prios log lanes : Bor (List ℕ)) → Memory
-lent threads queue prios log lanes = memory threads.now queue.now prios.now log.now lanes.now
+-- what the program's struct of the five slices holds
+abbrev pub held : LentMemory → Memory
+held m = memory m.threads.now m.queue.now m.prios.now m.log.now m.lanes.now
+
+-- still the same five loans
+pub record SameLoans (old new : LentMemory) : Type 0 where
+  pub threads : StillLent old.threads new.threads
+  pub queue : StillLent old.queue new.queue
+  pub prios : StillLent old.prios new.prios
+  pub log : StillLent old.log new.log
+  pub lanes : StillLent old.lanes new.lanes
 
 abbrev pub Unchanged : Memory → Memory → Type 0
 Unchanged m m' = (m'.threads ≡ m.threads) × (m'.queue ≡ m.queue) × (m'.prios ≡ m.prios) × (m'.log ≡ m.log) × (m'.lanes ≡ m.lanes)

@@ -4,17 +4,19 @@
 --   prios:   T words; the first `threads` are the threads' priority numbers
 --   log:     2 E words, a ring of events
 --   lanes:   80 words that a tick end or a forced switch writes its moves to, then 2 S words a core, each a ring of segments
-use Rattle.std.specs.Prelude.{ℕ, zero, suc, ◌+◌, ◌*◌, ◌<◌, ◌≤◌, ◌≡◌, Bool, false, List, [], ◌∷◌, ◌++◌, map, length, take, drop, get_or}
+use Rattle.std.specs.Prelude.{ℕ, zero, suc, ◌+◌, ◌*◌, ◌<◌, ◌≤◌, ◌≡◌, List, [], ◌∷◌, map, length, take, drop, get_or}
 use Rattle.settings.specs.Reading.{policy_meant}
 use Rattle.model.specs.Invariants.{Bounded}
 use Rattle.model.specs.declared.CoreState as Program
 use Rattle.model.specs.declared.CoreState.TheVariants as CoreStateCases
 use Rattle.model.specs.declared.ThreadInfo.{ThreadInfo}
 use Rattle.model.specs.declared.CoreTicks as Counters
-use Rattle.model.specs.Types.{Core, CoreTicks, Segment, ThreadRecord, Config, Accounts, State}
-use Rattle.model.specs.Reading.{core_state_meant, core_ticks_meant, thread_meant}
+use Rattle.model.specs.Types.{Core, ThreadRecord, State}
+use Rattle.model.specs.Reading.{core_ticks_meant, thread_meant}
 unfoldable pub use Rattle.phases.specs.Cores.{firsts}
 unfoldable pub use Rattle.phases.specs.Cores.{core_at as core_from}
+use Rattle.phases.specs.Cores.{board}
+use Rattle.turns.specs.declared.Marks.{Marks}
 use Rattle.rings.specs.declared.RingPos.{RingPos}
 use Rattle.rings.specs.Ring.{RingOK}
 use Rattle.rings.specs.Events.{events_in}
@@ -84,6 +86,10 @@ lane_words cap_s i ws = take (2 * cap_s) (drop (lane_start cap_s i) ws)
 abbrev pub log_words : (cap_e : ℕ) → List ℕ → List ℕ
 log_words cap_e ls = take (2 * cap_e) ls
 
+-- core i of a state, with its marks
+abbrev pub board_of : Sched → ℕ → Core
+board_of s = board (states_of s.states) s.marks
+
 unfoldable pub meant_at : Sched → List ThreadInfo → (queue log lanes : List ℕ) → State
 meant_at s ts qs ls ws =
     record {
@@ -95,7 +101,7 @@ meant_at s ts qs ls ws =
         cap_e = s.capacities.events;
         cap_s = s.capacities.segments;
       };
-      cores = firsts (core_from (states_of s.states) s.exits s.blocks s.yields s.progressed) s.cores;
+      cores = firsts (board_of s) s.cores;
       queue = take s.queued qs;
       accounts = record {
         threads = map thread_meant (take s.threads ts);
@@ -130,18 +136,18 @@ pub record Rings (capacities : Capacities) (cores : ℕ) (log : RingPos) (lanes 
   pub segments : (i : ℕ) → i < cores → RingOK (lane_words capacities.segments i ws) (get_or lanes i no_pos)
 
 -- arrays of eight are lists of eight; a core that is not there is idle and unmarked
-pub record Marks (cores : ℕ) (states : List Program.CoreState) (ex bl yi pr : List Bool) : Type 0 where
-  pub exits : length ex ≡ 8
-  pub blocks : length bl ≡ 8
-  pub yields : length yi ≡ 8
-  pub progressed : length pr ≡ 8
-  pub unused : (i : ℕ) → cores ≤ i → core_from states ex bl yi pr i ≡ idle_core
+pub record MarksOK (cores : ℕ) (states : List Program.CoreState) (marks : Marks) : Type 0 where
+  pub exits : length marks.exits ≡ 8
+  pub blocks : length marks.blocks ≡ 8
+  pub yields : length marks.yields ≡ 8
+  pub progressed : length marks.progressed ≡ 8
+  pub unused : (i : ℕ) → cores ≤ i → board states marks i ≡ idle_core
 
 -- what `new` and every call leave, and all that a call asks
 pub record Valid (s : Sched) (m : Memory) : Type 0 where
   pub sizes : Sizes s.capacities s.cores s.threads s.queued m
   pub rings : Rings s.capacities s.cores s.log s.lanes m.log m.lanes
-  pub marks : Marks s.cores (states_of s.states) s.exits s.blocks s.yields s.progressed
+  pub marks : MarksOK s.cores (states_of s.states) s.marks
   -- the words of the core states are determined by the states
   pub words : s.states ≡ packed (states_of s.states)
   pub ticks : length s.ticks ≡ 8

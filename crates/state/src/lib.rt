@@ -3,6 +3,8 @@
 // Its public functions are parts for other crates: no host calls them.
 #![tactic(auto)]
 
+pub mod memory;
+
 ghost use Rattle.std.specs.Prelude.{◌≡◌, get_or};
 ghost use Rattle.model.specs.declared.CoreState.TheVariants;
 ghost use Rattle.state.specs.State.{words_of, packed, state_in, states_of, others_idle};
@@ -10,9 +12,10 @@ ghost use Rattle.state.specs.State.{words_of, packed, state_in, states_of, other
 use model::{CoreState, CoreTicks, Tick, Tid};
 use rings::RingPos;
 use settings::SchedConfig;
+use turns::Marks;
 
-// A core state in three words: idle, switching or running by `kind`, the thread, and its `left` or `slice`. A copy of an enum moves the bytes behind its tag
-// one by one, and the state is copied in each call.
+// A core state in three words: idle, switching or running by `kind`, the thread, and its `left` or `slice`. The state is copied in each call, and with a field
+// of core states the smallest load took longer (docs/DECISIONS.md, "Speed").
 #[derive(Clone, Copy)]
 pub struct CoreWords {
     pub kind: u32,
@@ -20,7 +23,7 @@ pub struct CoreWords {
     pub count: u32,
 }
 
-// The core states between calls: an array of enums can't be a field (docs/DECISIONS.md). In the phases they are an array of eight.
+// The core states between calls. In the phases they are an array of eight.
 #[derive(Clone, Copy)]
 pub struct Eight {
     pub c0: CoreWords,
@@ -52,10 +55,7 @@ pub struct Sched {
     pub context_switches: u64,
     pub closed: bool,
     pub states: Eight,
-    pub exits: [bool; 8],
-    pub blocks: [bool; 8],
-    pub yields: [bool; 8],
-    pub progressed: [bool; 8],
+    pub marks: Marks,
     pub ticks: [CoreTicks; 8],
     pub log: RingPos,
     pub lanes: [RingPos; 8],

@@ -24,7 +24,7 @@ use Rattle.threads.specs.Slice.{blank, threads_in}
 use Rattle.threads.proofs.Slices.{thread-at, length-threads}
 use Rattle.state.specs.declared.Sched.{Sched}
 use Rattle.state.specs.Memory.{memory}
-use Rattle.state.specs.State.{firsts, core_from, states_of, meant_at, Marks, Valid}
+use Rattle.state.specs.State.{firsts, core_from, states_of, meant_at, MarksOK, Valid}
 use Rattle.state.specs.Done.{Done}
 use Rattle.state.proofs.Doing.{done-taken}
 use Rattle.checks.specs.Check.{core_refusal}
@@ -44,14 +44,14 @@ module _ (s : Sched) (ts : List ThreadInfo) (qs ps ls ws : List ℕ) (v : Valid 
 
   pub marked-done :
       (c : Call) (a : Answer) (b y : List Bool) (u : ℕ) (g : ThreadRecord → ThreadRecord) → u < s.threads → ((t : ThreadRecord) → (g t).priority ≡ t.priority) → refusal M c ≡ none
-      → rebuilt M (firsts (core_from (states_of s.states) s.exits b y s.progressed) s.cores) M.queue (update u g M.accounts.threads) M.accounts.log ≡ (accept M c).state → a ≡ (accept M c).answer → ((n : ℕ) → a ≡ refused n → ⊥)
-      → Marks s.cores (states_of s.states) s.exits b y s.progressed → (ts' : List ThreadInfo) → Changed u g ts ts' → Done c a s (with_marks b y s) (memory ts qs ps ls ws) (memory ts' qs ps ls ws)
+      → rebuilt M (firsts (core_from (states_of s.states) s.marks.exits b y s.marks.progressed) s.cores) M.queue (update u g M.accounts.threads) M.accounts.log ≡ (accept M c).state → a ≡ (accept M c).answer → ((n : ℕ) → a ≡ refused n → ⊥)
+      → MarksOK s.cores (states_of s.states) (record s.marks { blocks = b; yields = y }) → (ts' : List ThreadInfo) → Changed u g ts ts' → Done c a s (with_marks b y s) (memory ts qs ps ls ws) (memory ts' qs ps ls ws)
   unfolding meant_at threads_in
   marked-done c a b y u g l keeps r st an un ma ts' f =
       let z = v.sizes in
       let records : map thread_meant (take s.threads ts') ≡ update u g (map thread_meant (take s.threads ts)) = (f s.threads l).front in
       done-taken c s ts qs ps ls ws v a (with_marks b y s) ts' qs ps ls ws r
-      (ap (λ (t : List ThreadRecord). rebuilt M (firsts (core_from (states_of s.states) s.exits b y s.progressed) s.cores) M.queue t M.accounts.log) records ∙ st) an un
+      (ap (λ (t : List ThreadRecord). rebuilt M (firsts (core_from (states_of s.states) s.marks.exits b y s.marks.progressed) s.cores) M.queue t M.accounts.log) records ∙ st) an un
       (record {
         cores = z.cores;
         in_use = z.in_use;
@@ -92,7 +92,7 @@ module _ (s : Sched) (ts : List ThreadInfo) (qs ps ls ws : List ℕ) (v : Valid 
     unrefused o a e n k = let z : ◌≡◌ {A = ℕ} 0 1 = cc in omega arith
 
     waits : (target : Tid) → Wait ≡ outcome (tid_on M i) target.0 (thread_state_of (get_elem? M.accounts.threads target.0))
-        → rebuilt M (firsts (core_from (states_of s.states) s.exits (set s.blocks i true) s.yields s.progressed) s.cores) M.queue (update (own_tid s i) (set_state (Blocked target.0)) M.accounts.threads) M.accounts.log
+        → rebuilt M (firsts (core_from (states_of s.states) s.marks.exits (set s.marks.blocks i true) s.marks.yields s.marks.progressed) s.cores) M.queue (update (own_tid s i) (set_state (Blocked target.0)) M.accounts.threads) M.accounts.log
         ≡ (accept M (join i target.0)).state
     unfolding accept blocking meant_at
     waits target w =
@@ -101,15 +101,15 @@ module _ (s : Sched) (ts : List ThreadInfo) (qs ps ls ws : List ℕ) (v : Valid 
 
     pub join-waits :
         (c : ℕ) (target : Tid) (o : JoinOutcome) (a : Answer) → c ≡ own_tid s i → a ≡ joined o → o ≡ Wait → o ≡ outcome (tid_on M i) target.0 (thread_state_of (get_elem? M.accounts.threads target.0))
-        → Pending (join i target.0) a s (with_marks (set s.blocks i true) s.yields s) c (Changes.Block target) ts qs qs ps ps ls ls ws ws
+        → Pending (join i target.0) a s (with_marks (set s.marks.blocks i true) s.marks.yields s) c (Changes.Block target) ts qs qs ps ps ls ls ws ws
     unfolding change_meant accept
     join-waits c target o a ec e ew eo =
         let k = own-known s ts qs ps ls ws v i h in
-        subst (λ (u : ℕ). Pending (join i target.0) a s (with_marks (set s.blocks i true) s.yields s) u (Changes.Block target) ts qs qs ps ps ls ls ws ws) (sym ec)
+        subst (λ (u : ℕ). Pending (join i target.0) a s (with_marks (set s.marks.blocks i true) s.marks.yields s) u (Changes.Block target) ts qs qs ps ps ls ls ws ws) (sym ec)
         (record {
           there = omega (arith, k, in_use s ts qs ps ls ws v);
           fits = tt;
-          done = λ ts' f. marked-done (join i target.0) a (set s.blocks i true) s.yields (own_tid s i) (set_state (Blocked target.0)) k (λ t. refl) (join-refusal s ts qs ls ws i target.0 ∙ h) (waits target (sym ew ∙ eo)) (e ∙ ap joined eo) (unrefused o a e)
+          done = λ ts' f. marked-done (join i target.0) a (set s.marks.blocks i true) s.marks.yields (own_tid s i) (set_state (Blocked target.0)) k (λ t. refl) (join-refusal s ts qs ls ws i target.0 ∙ h) (waits target (sym ew ∙ eo)) (e ∙ ap joined eo) (unrefused o a e)
               (block-marks s ts qs ps ls ws v i (core-there s i true none h)) ts' f;
         })
 

@@ -23,7 +23,7 @@ use Rattle.threads.specs.Slice.{threads_in}
 use Rattle.threads.proofs.Slices.{length-threads}
 use Rattle.state.specs.declared.Sched.{Sched}
 use Rattle.state.specs.Memory.{memory}
-use Rattle.state.specs.State.{firsts, core_from, states_of, meant_at, Marks, Valid}
+use Rattle.state.specs.State.{firsts, core_from, board_of, states_of, meant_at, MarksOK, Valid}
 use Rattle.state.proofs.Firsts.{core_at-firsts}
 use Rattle.checks.specs.Check.{core_refusal}
 use Rattle.checks.proofs.Refusals.{join-refusal}
@@ -66,7 +66,7 @@ module _ (s : Sched) (ts : List ThreadInfo) (qs ps ls ws : List ℕ) (v : Valid 
   M = meant_at s ts qs ls ws
 
   abbrev own : ℕ → Core
-  own = core_from (states_of s.states) s.exits s.blocks s.yields s.progressed
+  own = board_of s
 
   pub own-tid : tid_on M i ≡ own_tid s i
   unfolding tid_on core_state_of own_tid core_from meant_at
@@ -90,26 +90,26 @@ module _ (s : Sched) (ts : List ThreadInfo) (qs ps ls ws : List ℕ) (v : Valid 
 
 module _ (s : Sched) (ts : List ThreadInfo) (qs ps ls ws : List ℕ) (v : Valid s (memory ts qs ps ls ws)) (i : ℕ) (l : i < s.cores) where
   abbrev with-block : ℕ → Bool → Core
-  with-block j b = record { state = core_state_meant (get_or (states_of s.states) j CoreStateCases.Idle); exits = get_or s.exits j false; blocks = b; yields = get_or s.yields j false; progressed = get_or s.progressed j false }
+  with-block j b = record { state = core_state_meant (get_or (states_of s.states) j CoreStateCases.Idle); exits = get_or s.marks.exits j false; blocks = b; yields = get_or s.marks.yields j false; progressed = get_or s.marks.progressed j false }
 
   abbrev with-yield : ℕ → Bool → Core
-  with-yield j b = record { state = core_state_meant (get_or (states_of s.states) j CoreStateCases.Idle); exits = get_or s.exits j false; blocks = get_or s.blocks j false; yields = b; progressed = get_or s.progressed j false }
+  with-yield j b = record { state = core_state_meant (get_or (states_of s.states) j CoreStateCases.Idle); exits = get_or s.marks.exits j false; blocks = get_or s.marks.blocks j false; yields = b; progressed = get_or s.marks.progressed j false }
 
-  pub blocked : firsts (core_from (states_of s.states) s.exits (set s.blocks i true) s.yields s.progressed) s.cores ≡ update i mark_block (firsts (core_from (states_of s.states) s.exits s.blocks s.yields s.progressed) s.cores)
+  pub blocked : firsts (core_from (states_of s.states) s.marks.exits (set s.marks.blocks i true) s.marks.yields s.marks.progressed) s.cores ≡ update i mark_block (firsts (board_of s) s.cores)
   unfolding core_from
   blocked =
-      let n : i < length s.blocks = let a = v.marks.blocks in let b = v.sizes.cores in omega (arith, l, a, b) in
-      firsts-update (core_from (states_of s.states) s.exits s.blocks s.yields s.progressed) (core_from (states_of s.states) s.exits (set s.blocks i true) s.yields s.progressed) mark_block s.cores i idle_core l
-      (ap (with-block i) (get_or-set_same s.blocks i true false n)) (λ j d. ap (with-block j) (get_or-set_other s.blocks i j true false d))
+      let n : i < length s.marks.blocks = let a = v.marks.blocks in let b = v.sizes.cores in omega (arith, l, a, b) in
+      firsts-update (board_of s) (core_from (states_of s.states) s.marks.exits (set s.marks.blocks i true) s.marks.yields s.marks.progressed) mark_block s.cores i idle_core l
+      (ap (with-block i) (get_or-set_same s.marks.blocks i true false n)) (λ j d. ap (with-block j) (get_or-set_other s.marks.blocks i j true false d))
 
-  pub yielded : firsts (core_from (states_of s.states) s.exits s.blocks (set s.yields i true) s.progressed) s.cores ≡ update i mark_yield (firsts (core_from (states_of s.states) s.exits s.blocks s.yields s.progressed) s.cores)
+  pub yielded : firsts (core_from (states_of s.states) s.marks.exits s.marks.blocks (set s.marks.yields i true) s.marks.progressed) s.cores ≡ update i mark_yield (firsts (board_of s) s.cores)
   unfolding core_from
   yielded =
-      let n : i < length s.yields = let a = v.marks.yields in let b = v.sizes.cores in omega (arith, l, a, b) in
-      firsts-update (core_from (states_of s.states) s.exits s.blocks s.yields s.progressed) (core_from (states_of s.states) s.exits s.blocks (set s.yields i true) s.progressed) mark_yield s.cores i idle_core l
-      (ap (with-yield i) (get_or-set_same s.yields i true false n)) (λ j d. ap (with-yield j) (get_or-set_other s.yields i j true false d))
+      let n : i < length s.marks.yields = let a = v.marks.yields in let b = v.sizes.cores in omega (arith, l, a, b) in
+      firsts-update (board_of s) (core_from (states_of s.states) s.marks.exits s.marks.blocks (set s.marks.yields i true) s.marks.progressed) mark_yield s.cores i idle_core l
+      (ap (with-yield i) (get_or-set_same s.marks.yields i true false n)) (λ j d. ap (with-yield j) (get_or-set_other s.marks.yields i j true false d))
 
-  pub block-marks : Marks s.cores (states_of s.states) s.exits (set s.blocks i true) s.yields s.progressed
+  pub block-marks : MarksOK s.cores (states_of s.states) (record s.marks { blocks = set s.marks.blocks i true })
   unfolding core_from
   block-marks =
       let m = v.marks in
@@ -118,10 +118,10 @@ module _ (s : Sched) (ts : List ThreadInfo) (qs ps ls ws : List ℕ) (v : Valid 
         blocks = simp length-set m.blocks;
         yields = m.yields;
         progressed = m.progressed;
-        unused = λ j k. ap (with-block j) (get_or-set_other s.blocks i j true false (λ z. omega (arith, l))) ∙ m.unused j k;
+        unused = λ j k. ap (with-block j) (get_or-set_other s.marks.blocks i j true false (λ z. omega (arith, l))) ∙ m.unused j k;
       }
 
-  pub yield-marks : Marks s.cores (states_of s.states) s.exits s.blocks (set s.yields i true) s.progressed
+  pub yield-marks : MarksOK s.cores (states_of s.states) (record s.marks { yields = set s.marks.yields i true })
   unfolding core_from
   yield-marks =
       let m = v.marks in
@@ -130,5 +130,5 @@ module _ (s : Sched) (ts : List ThreadInfo) (qs ps ls ws : List ℕ) (v : Valid 
         blocks = m.blocks;
         yields = simp length-set m.yields;
         progressed = m.progressed;
-        unused = λ j k. ap (with-yield j) (get_or-set_other s.yields i j true false (λ z. omega (arith, l))) ∙ m.unused j k;
+        unused = λ j k. ap (with-yield j) (get_or-set_other s.marks.yields i j true false (λ z. omega (arith, l))) ∙ m.unused j k;
       }

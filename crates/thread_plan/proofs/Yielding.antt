@@ -113,7 +113,7 @@ module _ (s : Sched) (ts : List ThreadInfo) (qs ps ls ws : List ℕ) (v : Valid 
     below : y < limit_now
     below = leb-false limit_now y (check-none 19 _ _ (rest-none (core_refusal s i true none) (limit y) (sym (core-rest s i true (limit y)) ∙ h)))
 
-    yields : rebuilt M (firsts (core_from (states_of s.states) s.exits s.blocks (set s.yields i true) s.progressed) s.cores) M.queue (update (own_tid s i) (add_counts 0 0 0 0 0 1) M.accounts.threads) M.accounts.log
+    yields : rebuilt M (firsts (core_from (states_of s.states) s.marks.exits s.marks.blocks (set s.marks.yields i true) s.marks.progressed) s.cores) M.queue (update (own_tid s i) (add_counts 0 0 0 0 0 1) M.accounts.threads) M.accounts.log
         ≡ (accept M (yield i)).state
     unfolding accept meant_at
     yields =
@@ -127,13 +127,13 @@ module _ (s : Sched) (ts : List ThreadInfo) (qs ps ls ws : List ℕ) (v : Valid 
     unfolding limit_now
     room = let a = below in let b = ap (λ (x : ThreadInfo). (thread_meant x).counts.yields) (own-record h4) in omega (arith, a, b)
 
-    pub yield-taken : (c : ℕ) (a : Answer) → c ≡ own_tid s i → a ≡ ok → Pending (yield i) a s (with_marks s.blocks (set s.yields i true) s) c Changes.Yield ts qs qs ps ps ls ls ws ws
+    pub yield-taken : (c : ℕ) (a : Answer) → c ≡ own_tid s i → a ≡ ok → Pending (yield i) a s (with_marks s.marks.blocks (set s.marks.yields i true) s) c Changes.Yield ts qs qs ps ps ls ls ws ws
     unfolding change_meant accept
     yield-taken c a ec e =
         let k = own-known s ts qs ps ls ws v i h4 in
-        subst (λ (u : ℕ). Pending (yield i) a s (with_marks s.blocks (set s.yields i true) s) u Changes.Yield ts qs qs ps ps ls ls ws ws) (sym ec)
+        subst (λ (u : ℕ). Pending (yield i) a s (with_marks s.marks.blocks (set s.marks.yields i true) s) u Changes.Yield ts qs qs ps ps ls ls ws ws) (sym ec)
         (record {
           there = omega (arith, k, in_use s ts qs ps ls ws v);
           fits = room;
-          done = λ ts' f. marked-done s ts qs ps ls ws v (yield i) a s.blocks (set s.yields i true) (own_tid s i) (add_counts 0 0 0 0 0 1) k kept (yield-refusal ∙ h) yields e (ok-unrefused a e) (yield-marks s ts qs ps ls ws v i (core-there s i true none h4)) ts' f;
+          done = λ ts' f. marked-done s ts qs ps ls ws v (yield i) a s.marks.blocks (set s.marks.yields i true) (own_tid s i) (add_counts 0 0 0 0 0 1) k kept (yield-refusal ∙ h) yields e (ok-unrefused a e) (yield-marks s ts qs ps ls ws v i (core-there s i true none h4)) ts' f;
         })

@@ -12,4 +12,4 @@ with_log p s = with_counts s.threads s.queued p s
 
 -- the block marks and the yield marks
 abbrev pub with_marks : (blocks yields : List Bool) → Sched → Sched
-with_marks b y s = record s { blocks = b; yields = y }
+with_marks b y s = record s { marks = record s.marks { blocks = b; yields = y } }

@@ -12,7 +12,7 @@ ghost use Rattle.thread_plan.specs.Reads.{known_place};
 
 use crate::Decided;
 use crate::own::own_tid;
-use checks::check_core;
+use checks::{Needs, check_core};
 use model::{CoreId, JoinOutcome, ThreadInfo, Tid};
 use record_reads::read::join_outcome;
 use records::change::Change;
@@ -34,7 +34,7 @@ pub fn join_decided(s: Sched, core: CoreId, target: Tid, t: ThreadInfo) -> Decid
         → t ≡ get_or ts (known_place s target.0) blank
         → Pending (Calls.join core.0 target.0) (join_answer_meant result.answer) s result.sched result.place result.change ts qs qs ps ps ls ls ws ws }
 {
-    if let Err(refusal) = check_core(s, core, true) {
+    if let Err(refusal) = check_core(s, core, Needs::Running) {
         return Decided::unchanged(s, Err(refusal));
     }
     let caller = own_tid(s, core);
@@ -43,7 +43,7 @@ pub fn join_decided(s: Sched, core: CoreId, target: Tid, t: ThreadInfo) -> Decid
         JoinOutcome::Wait => {
             let i = core.0 as usize;
             let mut next = s;
-            next.blocks[i] = true;
+            next.marks.blocks[i] = true;
             Decided {
                 sched: next,
                 answer: Ok(outcome),

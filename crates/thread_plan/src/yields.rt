@@ -13,7 +13,7 @@ ghost use Rattle.thread_plan.specs.Reads.{known_place, own_tid};
 
 use crate::Decided;
 use crate::own::own_tid;
-use checks::{LIMIT, check_core};
+use checks::{LIMIT, Needs, check_core};
 use model::{CoreId, ThreadInfo};
 use record_reads::read::yields_of;
 use records::change::Change;
@@ -26,7 +26,7 @@ fn check_yield(s: Sched, core: CoreId, yields: u64) -> Result<(), Refusal>
     requires { s.cores ≤ 8 }
     ensures { check_meant result ≡ core_refusal s core.0 true (Calls.check 19 (leb Calls.limit_now yields) none) }
 {
-    check_core(s, core, true)?;
+    check_core(s, core, Needs::Running)?;
     if LIMIT <= yields {
         return Err(Refusal::CounterLimit);
     }
@@ -46,7 +46,7 @@ pub fn yield_decided(s: Sched, core: CoreId, t: ThreadInfo) -> Decided<()>
             let i = core.0 as usize;
             let own = own_tid(s, core);
             let mut next = s;
-            next.yields[i] = true;
+            next.marks.yields[i] = true;
             Decided {
                 sched: next,
                 answer,

@@ -1,27 +1,22 @@
--- Deciding a tick end on a board of one core: what `decide_core` leaves is what `decide_board` leaves on the first core.
+-- Deciding a tick end on a board of one core: what `decide_core` leaves of it is what the phases leave of the board.
 use Prim.Native.Nat.{ℕ, ◌≤◌}
 use mathlib.Core.Path.{◌≡◌, ap, subst}
 use mathlib.Core.Bool.{true, false, not, ◌&&◌}
-use mathlib.Core.List.{List, ◌∷◌, ◌++◌}
+use mathlib.Core.List.{List, ◌∷◌}
 use native.Mathlib.Omega.{arith}
 use borrow.Author.Tests.{eqb-true}
 use lib.Dec.{eqb}
-use lib.ListN.{length, take, drop}
+use lib.ListN.{drop}
 use Rattle.model.specs.declared.CoreState as Program
-use Rattle.model.specs.Types.{Policy, Priority}
-use Rattle.model.specs.Phases.{decide}
+use Rattle.model.specs.Types.{Policy, Priority, Move}
+use Rattle.model.specs.Phases.{Rules, decide}
 use Rattle.model.proofs.PhaseLaws.{and_l, and_r}
-use Rattle.queue.specs.Words.{moves_in, NoLonger, Appended}
-use Rattle.turns.specs.Turns.{rules_of}
 use Rattle.turns.specs.declared.Marks.{Marks}
 use Rattle.phases.specs.Cores.{board, pass_of}
+use Rattle.state.specs.declared.CoreWords.{CoreWords}
 use Rattle.state.specs.declared.Eight.{Eight}
-use Rattle.state.specs.declared.Sched.{Sched}
-use Rattle.state.specs.State.{firsts, packed, state_in, states_of}
+use Rattle.state.specs.State.{firsts, state_in, states_of}
 use Rattle.quiet.specs.Quiet.{is_priority}
-use Rattle.tick_plan.specs.declared.Planned.{Planned}
-use Rattle.tick_plan.specs.Plan.{marks_of, PlannedOf}
-use Rattle.tick_plan.proofs.Parts.{planned}
 
 -- what `is_single` tests
 module _ (n : ℕ) (p : Policy) (e : (eqb n 1 && not (is_priority p)) ≡ true) where
@@ -34,17 +29,20 @@ module _ (n : ℕ) (p : Policy) (e : (eqb n 1 && not (is_priority p)) ≡ true) 
       let z : ◌≡◌ {A = ℕ} 0 1 = cc in
       omega arith
 
-module _ (s : Sched) (qs qs' ps ws a b : List ℕ) (x x' : Program.CoreState) (e₁ : Eight) (mo mk : Marks) (queued moves : ℕ) where
+-- another first core: what was decided of it beside any others was decided of it beside these
+module _ (e : Eight) (w : CoreWords) (x : Program.CoreState) (h : state_in w ≡ x) (mo mk : Marks) (n : ℕ) (one : n ≡ 1) where
   abbrev others : List Program.CoreState
-  others = drop 1 (states_of s.states)
+  others = drop 1 (states_of e)
 
-  pub planned-one : (p : Planned) (qs₂ b₂ z : List ℕ) → qs₂ ≡ qs' → b₂ ≡ b → z ≡ drop 80 ws → a ≡ take 80 ws → s.cores ≡ 1 → x ≡ state_in s.states.c0 → mo ≡ marks_of s → states_of e₁ ≡ x' ∷ others → (p.states ≡ e₁) × (p.marks ≡ mk) × (p.queued ≡ queued) × (p.moves ≡ moves)
-      → (length p.marks.exits ≡ 8) × (length p.marks.blocks ≡ 8) × (length p.marks.yields ≡ 8) × (length p.marks.progressed ≡ 8) → 80 ≤ length ws → length b ≡ length a → length qs' ≡ length qs
-      → ((cs : List Program.CoreState) → pass_of 1 (board (x' ∷ cs) mk) (take queued qs') (moves_in b moves)
-      ≡ decide (rules_of s.config.policy s.config.quantum s.config.switch_cost (take s.threads ps)) (firsts (board (x ∷ cs) mo) 1) (take s.queued qs))
-      → ((cs : List Program.CoreState) (j : ℕ) → 1 ≤ j → board (x' ∷ cs) mk j ≡ board (x ∷ cs) mo j)
-      → NoLonger s.queued queued qs qs' → Appended 10 0 moves a b
-      → (s.states ≡ packed (states_of s.states) → e₁ ≡ packed (states_of e₁)) → PlannedOf s qs qs₂ ps ws (b₂ ++ z) p
-  planned-one p qs₂ b₂ z eq eb ez ea one e em e' m m8 l80 lb lq d u q f wo =
-      planned s qs qs' ps ws a b (x ∷ others) (x' ∷ others) e₁ mo mk queued moves p qs₂ b₂ z eq eb ez ea (ap (λ (y : Program.CoreState). y ∷ others) e) em e' m m8 (omega (arith, one)) l80 lb lq (rw one (d others))
-      (λ j l. u others j (omega (arith, one, l))) q (rw one f) wo
+  abbrev left : Eight
+  left = record { c0 = w; c1 = e.c1; c2 = e.c2; c3 = e.c3; c4 = e.c4; c5 = e.c5; c6 = e.c6; c7 = e.c7 }
+
+  left-states : states_of left ≡ x ∷ others
+  left-states = ap (λ (y : Program.CoreState). y ∷ others) h
+
+  pub one-decided : (k : Rules) (q q' : List ℕ) (ms : List Move) → ((cs : List Program.CoreState) → pass_of 1 (board (x ∷ cs) mk) q' ms ≡ decide k (firsts (board (state_in e.c0 ∷ cs) mo) 1) q)
+      → pass_of n (board (states_of left) mk) q' ms ≡ decide k (firsts (board (states_of e) mo) n) q
+  one-decided k q q' ms d = rw (one, left-states) (d others)
+
+  pub one-rest : ((cs : List Program.CoreState) (j : ℕ) → 1 ≤ j → board (x ∷ cs) mk j ≡ board (state_in e.c0 ∷ cs) mo j) → (j : ℕ) → n ≤ j → board (states_of left) mk j ≡ board (states_of e) mo j
+  one-rest u j l = rw left-states (u others j (omega (arith, one, l)))

@@ -22,7 +22,7 @@ use Rattle.phases.specs.Cores.{pass_of}
 use Rattle.rings.specs.Ring.{RingOK}
 use Rattle.state.specs.declared.Sched.{Sched}
 use Rattle.state.specs.Memory.{memory}
-use Rattle.state.specs.State.{firsts, core_from, packed, states_of, log_words, Valid}
+use Rattle.state.specs.State.{firsts, core_from, board_of, packed, states_of, log_words, Valid}
 use Rattle.state.proofs.Firsts.{firsts_same}
 use Rattle.quiet.specs.Quiet.{is_quiet, sliced_below, state_at, Roomy}
 use Rattle.quiet.proofs.Resting.{still, ticked}
@@ -32,7 +32,7 @@ use Rattle.checks.specs.Check.{tick_refusal}
 use Rattle.tick_plan.specs.declared.Charged.{Charged}
 use Rattle.tick_plan.specs.declared.Planned.{Planned}
 use Rattle.tick_plan.specs.declared.Written.{Written}
-use Rattle.tick_plan.specs.Plan.{marks_of, TickPending, ChargedOf, PlannedOf, WrittenOf, ticked_sched}
+use Rattle.tick_plan.specs.Plan.{TickPending, ChargedOf, PlannedOf, WrittenOf, ticked_sched}
 use Rattle.tick_plan.proofs.Reading.{map-firsts}
 use Rattle.tick_plan.proofs.Ticking.{plan-fits}
 use Rattle.tick_plan.proofs.Parts.{pending-at}
@@ -45,10 +45,10 @@ no-moves ws = refl
 
 module _ (s : Sched) (h : is_quiet s ≡ true) (p : Planned) (st : (j : ℕ) → state_at p.states j ≡ sliced_below s.cores j (state_at s.states j)) where
   abbrev own : ℕ → Core
-  own = core_from (states_of s.states) s.exits s.blocks s.yields s.progressed
+  own = board_of s
 
   abbrev next : ℕ → Core
-  next = core_from (states_of p.states) s.exits s.blocks s.yields s.progressed
+  next = core_from (states_of p.states) s.marks.exits s.marks.blocks s.marks.yields s.marks.progressed
 
   grown : (j : ℕ) → j < s.cores → next j ≡ ticked (own j)
   unfolding core_from
@@ -63,7 +63,7 @@ module _ (s : Sched) (h : is_quiet s ≡ true) (p : Planned) (st : (j : ℕ) →
   all_grown = firsts_same next (λ j. ticked (own j)) s.cores grown ∙ sym (map-firsts ticked own s.cores)
 
   pub quiet-planned :
-      p.marks ≡ marks_of s → p.queued ≡ s.queued → p.moves ≡ 0
+      p.marks ≡ s.marks → p.queued ≡ s.queued → p.moves ≡ 0
       → (length p.marks.exits ≡ 8) × (length p.marks.blocks ≡ 8) × (length p.marks.yields ≡ 8) × (length p.marks.progressed ≡ 8)
       → (s.states ≡ packed (states_of s.states) → p.states ≡ packed (states_of p.states)) → (qs ps ws : List ℕ) → PlannedOf s qs qs ps ws ws p
   unfolding pass_of
@@ -103,7 +103,7 @@ pub quiet-pending :
     (s : Sched) (t : Tick) (c : Charged) (p : Planned) (w : Written) (s' : Sched) → s' ≡ ticked_sched s t c p w → t.0 ≡ s.now.0 + 1 → p.moves ≡ 0
     → ((qs ps ws : List ℕ) → PlannedOf s qs qs ps ws ws p) → ((now : ℕ) (ls : List ℕ) → RingOK (log_words s.capacities.events ls) s.log → WrittenOf s now [] ls ls w)
     → (a : Result Unit Refusal) (ts : List ThreadInfo) (qs ps ls ws ws' : List ℕ) → Valid s (memory ts qs ps ls ws) → tick_refusal s ≡ none → ChargedOf s ws ws' c → a ≡ Ok tt
-    → TickPending a w.switches s s' p.moves ts qs qs ps ls ls ws ws'
+    → TickPending a w.switches s s' p.moves (memory ts qs ps ls ws) (memory ts qs ps ls ws')
 quiet-pending s t c p w s' es et mo P R a ts qs ps ls ws ws' v h C e =
     let none_left : [] ≡ moves_in ws' p.moves = rw mo (sym (no-moves ws')) in
     pending-at s ts qs ps ls ws v h t c p w s' qs ls ws' ws' es et C (P qs ps ws') (subst (λ (ms : List Move). WrittenOf s t.0 ms ls ls w) none_left (R t.0 ls v.rings.events)) a e

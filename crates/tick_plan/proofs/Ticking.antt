@@ -23,7 +23,7 @@ use Rattle.model.proofs.Refusals.{check-none, check-rest}
 use Rattle.model.proofs.Bounded.{all-at, charged-in, applied-ticks, applied-switches, switches-figure}
 use Rattle.queue.specs.Words.{moves_in}
 use Rattle.switches.specs.declared.SwitchList.{SwitchList}
-use Rattle.switches.specs.Entries.{answer_with, ListFor}
+use Rattle.switches.specs.Entries.{answer_with, ListFor, no_switches}
 use Rattle.switches.proofs.Words.{list-says, list-taken, list-refused}
 use Rattle.turns.specs.Turns.{rules_of}
 use Rattle.phases.specs.Cores.{board, pass_of}
@@ -34,7 +34,7 @@ use Rattle.threads.specs.Slice.{blank, threads_in, Front, AllChargeable, tid_at,
 use Rattle.threads.proofs.Slices.{thread-at, length-threads}
 use Rattle.state.specs.declared.Sched.{Sched}
 use Rattle.state.specs.Memory.{memory}
-use Rattle.state.specs.State.{core_from, states_of, no_pos, meant_at, Sizes, Rings, Marks, Valid}
+use Rattle.state.specs.State.{core_from, board_of, states_of, no_pos, meant_at, Sizes, Rings, MarksOK, Valid}
 use Rattle.state.specs.Done.{Frame, Done}
 use Rattle.state.proofs.Doing.{done_refused, done-taken}
 use Rattle.accounts.proofs.Figures.{firsts-all, firsts_same, ticks-room, meant-ticks, meant-timelines, applied-log, applied-timelines}
@@ -103,16 +103,16 @@ module _ (s : Sched) (ts : List ThreadInfo) (qs ps ls ws : List ℕ) (v : Valid 
 
   ---- refused: no record is charged, and there are no moves
 
-  pub pending-refused : (a : Result Unit Refusal) (x : Refusal) (l : SwitchList) (zs : List ℕ) → ListFor (switched (switch_list [] (moves_in zs 0))) l → a ≡ Err x → check_meant a ≡ tick_refusal s
-      → TickPending a l s s 0 ts qs qs ps ls ls ws ws
-  pending-refused a x l zs none-listed e h =
+  pub pending-refused : (a : Result Unit Refusal) (x : Refusal) (l : SwitchList) → l ≡ no_switches → a ≡ Err x → check_meant a ≡ tick_refusal s
+      → TickPending a l s s 0 (memory ts qs ps ls ws) (memory ts qs ps ls ws)
+  pending-refused a x l none-due e h =
       record {
         fits = λ ts₁ f. record { within = omega arith; known = λ k l. absurd (omega arith); room = λ k l. absurd (omega arith) };
         done = λ ts₁ ts' f g.
             let same : ts' ≡ ts = (g 0 (λ k l. absurd (omega arith))).rest ∙ uncharged ts₁ f in
             subst (λ (ys : List ThreadInfo). DoneWith tick (answer_with a l) l s s (memory ts qs ps ls ws) (memory ys qs ps ls ws)) (sym same)
             (subst (λ (b : Result Unit Refusal). DoneWith tick (answer_with b l) l s s (memory ts qs ps ls ws) (memory ts qs ps ls ws)) (sym e)
-            (record { done = done_refused tick s ts qs ps ls ws v (refusal_number x) (tick-refusal s ts qs ls ws ∙ number); list = list-refused zs l none-listed (refusal_number x) }));
+            (record { done = done_refused tick s ts qs ps ls ws v (refusal_number x) (tick-refusal s ts qs ls ws ∙ number); list = list-refused l none-due (refusal_number x) }));
       }
     where
       number : tick_refusal s ≡ some (refusal_number x)
@@ -157,7 +157,7 @@ module _ (s : Sched) (ts : List ThreadInfo) (qs ps ls ws : List ℕ) (v : Valid 
           words = omega (arith, v.sizes.lanes);
           short = λ j l.
               short-in s.now.0 v.bounded.now (core_state_meant (get_or (states_of s.states) j CoreStateCases.Idle))
-              (firsts-all (λ (c : Core). CoreStateIn s.now.0 c.state) (core_from (states_of s.states) s.exits s.blocks s.yields s.progressed) s.cores (all_list (λ (c : Core). CoreStateIn s.now.0 c.state) M.cores v.bounded.cores) j l);
+              (firsts-all (λ (c : Core). CoreStateIn s.now.0 c.state) (board_of s) s.cores (all_list (λ (c : Core). CoreStateIn s.now.0 c.state) M.cores v.bounded.cores) j l);
         }
 
     pub write-fits : (ws₁ ws₂ : List ℕ) (count now : ℕ) → length ws₁ ≡ length ws → length ws₂ ≡ length ws₁ → count ≤ 80 → now ≡ s.now.0 + 1 → WriteFits s ls ws₂ count now
@@ -203,7 +203,7 @@ module _ (s : Sched) (ts : List ThreadInfo) (qs ps ls ws : List ℕ) (v : Valid 
 
         charged-threads : threads_in ts₁ s.threads ≡ charge_threads M.cores 0 (threads_in ts s.threads)
         unfolding meant_at
-        charged-threads = charged-front.front ∙ charge-used s.states s.exits s.blocks s.yields s.progressed s.cores v.sizes.cores v.marks.unused (threads_in ts s.threads)
+        charged-threads = charged-front.front ∙ charge-used s.states s.marks.exits s.marks.blocks s.marks.yields s.marks.progressed s.cores v.sizes.cores v.marks.unused (threads_in ts s.threads)
 
         charged-long : length ts₁ ≡ length ts
         charged-long = front_long s.threads _ ts ts₁ charged-front (priority-charged (cores_meant (states_of s.states)) 0 (threads_in ts s.threads)) records-long
@@ -285,7 +285,7 @@ module _ (s : Sched) (ts : List ThreadInfo) (qs ps ls ws : List ℕ) (v : Valid 
                 segments = λ i l. rw (lane-same s.capacities.segments i ws₁ ws' P.behind) (C.lanes.lanes i l).ok;
               }
 
-          marks : Marks s.cores (states_of p.states) p.marks.exits p.marks.blocks p.marks.yields p.marks.progressed
+          marks : MarksOK s.cores (states_of p.states) p.marks
           marks =
               record {
                 exits = P.exits;
@@ -317,5 +317,5 @@ module _ (s : Sched) (ts : List ThreadInfo) (qs ps ls ws : List ℕ) (v : Valid 
               (λ n z. let y : ◌≡◌ {A = ℕ} 0 1 = cc in omega arith)
               sizes rings marks (P.words v.words) C.eight_ticks priorities-kept frame
 
-      pub tick-pending : (a : Result Unit Refusal) → a ≡ Ok tt → TickPending a w.switches s s' p.moves ts qs qs' ps ls ls' ws ws'
+      pub tick-pending : (a : Result Unit Refusal) → a ≡ Ok tt → TickPending a w.switches s s' p.moves (memory ts qs ps ls ws) (memory ts qs' ps ls' ws')
       tick-pending a e = record { fits = λ ts₁ f. moves-fit ts₁ f; done = λ ts₁ ts' f g. record { done = tick-done ts₁ f ts' g a e; list = list-taken _ _ R.list a e } }

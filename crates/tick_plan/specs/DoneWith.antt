@@ -1,4 +1,4 @@
--- What a call with a switch list promises: what every call does, and the list beside its answer word by word.
+-- What a call with a switch list promises: what every call does, and the list beside its answer entry by entry.
 use Rattle.model.specs.Calls.{Call, Answer}
 use Rattle.switches.specs.declared.SwitchList.{SwitchList}
 use Rattle.switches.specs.Entries.{ListFor}

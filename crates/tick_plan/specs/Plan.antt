@@ -12,7 +12,6 @@ use Rattle.model.specs.Calls.{tick, switched}
 use Rattle.model.specs.Reading.{core_state_meant}
 use Rattle.queue.specs.Words.{moves_in, NoLonger}
 use Rattle.turns.specs.Turns.{rules_of, Short}
-use Rattle.turns.specs.declared.Marks.{Marks}
 use Rattle.phases.specs.Cores.{board, pass_of}
 use Rattle.switches.specs.declared.SwitchList.{SwitchList}
 use Rattle.switches.specs.Entries.{answer_with, ListFor}
@@ -24,8 +23,8 @@ use Rattle.charges.specs.Charging.{cores_meant}
 use Rattle.record_moves.specs.Moves.{moved_threads}
 use Rattle.threads.specs.Slice.{threads_in, Front, tid_at, MovesFit}
 use Rattle.state.specs.declared.Sched.{Sched}
-use Rattle.state.specs.Memory.{memory}
-use Rattle.state.specs.State.{firsts, core_from, packed, states_of, no_ticks, no_pos, move_room, lane_start, lane_words, log_words}
+use Rattle.state.specs.Memory.{Memory}
+use Rattle.state.specs.State.{firsts, board_of, packed, states_of, no_ticks, no_pos, move_room, lane_start, lane_words, log_words}
 use Rattle.accounts.specs.Charging.{TicksCharged, LanesCharged}
 use Rattle.accounts.specs.Log.{moved_log}
 use Rattle.checks.specs.Check.{tick_refusal}
@@ -52,9 +51,9 @@ abbrev pub MovedRecords : (now : ℕ) (ws : List ℕ) (count : ℕ) (ts₁ ts' :
 MovedRecords now ws count ts₁ ts' = (n : ℕ) → ((k : ℕ) → k < count → tid_at ws k < n) → Front n (moved_threads now (moves_in ws count) (threads_in ts₁ n)) ts₁ ts'
 
 -- a tick end that is done once the records are charged and the moves applied to them
-pub record TickPending (a : Result Unit Refusal) (l : SwitchList) (s s' : Sched) (count : ℕ) (ts : List ThreadInfo) (qs qs' ps ls ls' ws ws' : List ℕ) : Type 0 where
-  pub fits : (ts₁ : List ThreadInfo) → ChargedRecords s ts ts₁ → MovesFit ts₁ ws' count
-  pub done : (ts₁ ts' : List ThreadInfo) → ChargedRecords s ts ts₁ → MovedRecords (s.now.0 + 1) ws' count ts₁ ts' → DoneWith tick (answer_with a l) l s s' (memory ts qs ps ls ws) (memory ts' qs' ps ls' ws')
+pub record TickPending (a : Result Unit Refusal) (l : SwitchList) (s s' : Sched) (count : ℕ) (m m' : Memory) : Type 0 where
+  pub fits : (ts₁ : List ThreadInfo) → ChargedRecords s m.threads ts₁ → MovesFit ts₁ m'.lanes count
+  pub done : (ts₁ ts' : List ThreadInfo) → ChargedRecords s m.threads ts₁ → MovedRecords (s.now.0 + 1) m'.lanes count ts₁ ts' → DoneWith tick (answer_with a l) l s s' m (record m' { threads = ts' })
 
 ---- charging
 
@@ -76,9 +75,6 @@ pub record ChargedOf (s : Sched) (ws ws' : List ℕ) (c : Charged) : Type 0 wher
 
 ---- deciding
 
-abbrev pub marks_of : Sched → Marks
-marks_of s = record { exits = s.exits; blocks = s.blocks; yields = s.yields; progressed = s.progressed }
-
 pub record PlanFits (s : Sched) (qs ps ws : List ℕ) : Type 0 where
   pub cores : s.cores ≤ 8
   pub queued : s.queued ≤ length qs
@@ -90,10 +86,10 @@ pub record PlannedOf (s : Sched) (qs qs' ps ws ws' : List ℕ) (p : Planned) : T
   pub decided :
       pass_of s.cores (board (states_of p.states) p.marks) (take p.queued qs') (moves_in ws' p.moves)
       ≡ decide (rules_of s.config.policy s.config.quantum s.config.switch_cost (take s.threads ps))
-      (firsts (core_from (states_of s.states) s.exits s.blocks s.yields s.progressed) s.cores) (take s.queued qs)
+      (firsts (board_of s) s.cores) (take s.queued qs)
   pub unused :
       (j : ℕ) → s.cores ≤ j
-      → board (states_of p.states) p.marks j ≡ core_from (states_of s.states) s.exits s.blocks s.yields s.progressed j
+      → board (states_of p.states) p.marks j ≡ board_of s j
   pub queue : NoLonger s.queued p.queued qs qs'
   pub few : p.moves ≤ move_room
   pub behind : drop move_room ws' ≡ drop move_room ws
@@ -131,18 +127,17 @@ WrittenOf s = WrittenAt s.capacities.events s.log
 
 ---- the state that is left
 
-abbrev pub ticked_sched : Sched → Tick → Charged → Planned → Written → Sched
-ticked_sched s t c p w =
+-- with what was decided, and with what its moves came to
+abbrev pub planned_sched : Sched → Planned → Written → Sched
+planned_sched s p w =
     record s {
       queued = p.queued;
-      now = t;
       context_switches = s.context_switches + w.takes;
       states = p.states;
-      exits = p.marks.exits;
-      blocks = p.marks.blocks;
-      yields = p.marks.yields;
-      progressed = p.marks.progressed;
-      ticks = c.ticks;
+      marks = p.marks;
       log = w.log;
-      lanes = c.lanes;
     }
+
+-- and charged, one tick later
+abbrev pub ticked_sched : Sched → Tick → Charged → Planned → Written → Sched
+ticked_sched s t c p w = let planned : Sched = planned_sched s p w in record planned { now = t; ticks = c.ticks; lanes = c.lanes }

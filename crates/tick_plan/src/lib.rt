@@ -1,13 +1,13 @@
-// What `end_tick` does beside the thread records: it charges counters and timelines, decides, and writes the log. The records are charged and
-// moved by the crate above, which holds the lent slice.
+// What `end_tick` does beside the thread records: it charges counters and timelines, decides, and writes the log. The records are
+// lent along and left as they are: the crate above charges and moves them.
 // Its public functions are parts for other crates: no host calls them.
 #![tactic(auto)]
 
 mod one;
 pub mod tick;
 
-ghost use Rattle.std.specs.Prelude.{◌≡◌, length};
-ghost use Rattle.tick_plan.specs.Plan.{marks_of};
+ghost use Rattle.std.specs.Prelude.{◌≡◌, ◌+◌, ◌<◌, ◌^◌, length};
+ghost use Rattle.tick_plan.specs.Plan.{planned_sched};
 
 use model::CoreTicks;
 use rings::RingPos;
@@ -57,25 +57,6 @@ pub struct Ticked {
     pub switches: SwitchList,
 }
 
-// The marks of a state.
-pub fn marks_of(s: Sched) -> Marks
-    ensures { result ≡ marks_of s }
-{
-    let Sched {
-        exits,
-        blocks,
-        yields,
-        progressed,
-        ..
-    } = s;
-    Marks {
-        exits,
-        blocks,
-        yields,
-        progressed,
-    }
-}
-
 impl Planned {
     // Eight marks of each kind: a call that is lent `Marks` does not say so of what it leaves.
     pub fn new(states: Eight, marks: Marks, queued: usize, moves: usize) -> Planned
@@ -87,6 +68,27 @@ impl Planned {
             marks,
             queued,
             moves,
+        }
+    }
+
+    // The state with what was decided, and with what its moves came to.
+    pub fn taken(self, s: Sched, w: Written) -> Sched
+        requires { s.context_switches + w.takes < 2 ^ 64 }
+        ensures { result ≡ planned_sched s self w }
+    {
+        let Planned {
+            states,
+            marks,
+            queued,
+            ..
+        } = self;
+        Sched {
+            queued,
+            context_switches: s.context_switches + w.takes,
+            states,
+            marks,
+            log: w.log,
+            ..s
         }
     }
 }

@@ -1,10 +1,16 @@
 // A tick end: refused, or charged, decided and written.
-ghost use Rattle.std.specs.Prelude.{◌≡◌, true, List, [], ℕ, ◌+◌, ◌<◌, ◌≤◌, ◌^◌, length, get_or};
+ghost use Rattle.std.specs.Prelude.{◌≡◌, true, List, [], ℕ, ◌+◌, ◌*◌, ◌<◌, ◌≤◌, ◌^◌, length, get_or};
 ghost use Rattle.std.proofs.Math.Option.{none};
+ghost use Rattle.model.specs.declared.CoreState.TheVariants;
 ghost use Rattle.model.specs.declared.ThreadInfo.{ThreadInfo};
-ghost use Rattle.queue.specs.Words.{moves_in};
-ghost use Rattle.state.specs.Memory.{memory};
-ghost use Rattle.state.specs.State.{packed, states_of, no_ticks, no_pos, lane_start, lane_words, log_words, Valid};
+ghost use Rattle.model.specs.Phases.{decide};
+ghost use Rattle.model.specs.Reading.{core_state_meant};
+ghost use Rattle.queue.specs.Ready.{waiting};
+ghost use Rattle.queue.specs.Words.{moves_in, made, Appended, NoLonger, StillLent};
+ghost use Rattle.turns.specs.Turns.{rules_meant, Short};
+ghost use Rattle.phases.specs.Cores.{board, pass_of};
+ghost use Rattle.state.specs.Memory.{memory, held, SameLoans};
+ghost use Rattle.state.specs.State.{firsts, packed, states_of, move_room, no_ticks, no_pos, lane_start, lane_words, log_words, Valid};
 ghost use Rattle.rings.specs.Ring.{RingOK};
 ghost use Rattle.quiet.specs.Quiet.{is_quiet, Roomy};
 ghost use Rattle.ticks.specs.Room.{TicksRoom};
@@ -12,20 +18,22 @@ ghost use Rattle.accounts.specs.Charging.{TicksCharged, LanesCharged};
 ghost use Rattle.checks.specs.Check.{tick_refusal};
 ghost use Rattle.tick_plan.specs.Plan.{tick_threads, ticked_sched, ChargeFits, ChargedOf, PlanFits, PlannedOf, WriteFitsAt, WriteFits, WrittenAt, WrittenOf, TickPending};
 
-use crate::one::{charge_one, is_single, plan_one};
-use crate::{Charged, Decided, Planned, Written, marks_of};
+use crate::one::{charge_one, is_single};
+use crate::{Charged, Decided, Planned, Written};
 use accounts::counters::{charge_ticks, count_takes};
 use accounts::lanes::charge_lanes;
 use accounts::log::log_moves;
 use checks::check_tick;
 use decide::tick::decide_board;
+use decide_one::decide_core;
 use model::{CoreState, CoreTicks, Tick};
 use queue::moves::Moves;
 use queue::ready::ReadyQueue;
 use quiet::{is_quiet, sliced_states};
 use rings::RingPos;
-use state::{Sched, pack, unpack};
-use switches::switch_list;
+use state::memory::LentMemory;
+use state::{Eight, Sched, pack, state_in, unpack, words_of};
+use switches::{no_switches, switch_list};
 use turns::{Marks, Rules};
 
 // The threads that the call charges: none where it is refused.
@@ -105,7 +113,37 @@ fn charge_tick(s: Sched, lanes: &mut [u64]) -> Charged
     )
 }
 
-// The six phases; the moves go to the first 80 words of the lanes.
+// The six phases on the core states; one core by itself.
+fn decided(
+    states: Eight,
+    n: usize,
+    rules: &Rules,
+    marks: &mut Marks,
+    queue: &mut ReadyQueue,
+    moves: &mut Moves,
+) -> Eight
+    requires bounds { (n ≤ 8) × (queue.old.len ≤ length queue.old.words.now) × (move_room ≤ length moves.old.words.now) }
+    requires short { (j : ℕ) → j < n → Short (core_state_meant (get_or (states_of states) j TheVariants.Idle)) }
+    ensures decided { pass_of n (board (states_of result) marks.new) (waiting queue.new) (made moves.new)
+        ≡ decide (rules_meant rules.now) (firsts (board (states_of states) marks.old) n) (waiting queue.old) }
+    ensures rest { (j : ℕ) → n ≤ j → board (states_of result) marks.new j ≡ board (states_of states) marks.old j }
+    ensures queue { NoLonger queue.old.len queue.new.len queue.old.words.now queue.new.words.now }
+    ensures out { Appended (10 * n) 0 moves.new.count moves.old.words.now moves.new.words.now }
+    ensures lent { StillLent queue.old.words queue.new.words }
+    ensures lent_moves { StillLent moves.old.words moves.new.words }
+    ensures words { states ≡ packed (states_of states) → result ≡ packed (states_of result) }
+{
+    if is_single(n, rules.policy) {
+        let next = decide_core(state_in(states.c0), rules, marks, queue, moves);
+        return Eight {
+            c0: words_of(next),
+            ..states
+        };
+    }
+    pack(decide_board(unpack(states), n, rules, marks, queue, moves))
+}
+
+// What the phases decide; the moves go to the first 80 words of the lanes.
 fn plan(s: Sched, queue: &mut [u32], prios: &[u32], lanes: &mut [u64]) -> Planned
     requires { PlanFits s queue.old prios.now lanes.old }
     ensures { PlannedOf s queue.old queue.new prios.now lanes.old lanes.new result }
@@ -116,7 +154,7 @@ fn plan(s: Sched, queue: &mut [u32], prios: &[u32], lanes: &mut [u64]) -> Planne
         cost: s.config.switch_cost,
         prios: &prios[..s.threads],
     };
-    let mut marks = marks_of(s);
+    let mut marks = s.marks;
     let mut ready = ReadyQueue {
         words: queue,
         len: s.queued,
@@ -126,20 +164,10 @@ fn plan(s: Sched, queue: &mut [u32], prios: &[u32], lanes: &mut [u64]) -> Planne
         words: front,
         count: 0,
     };
-    let states = unpack(s.states);
-    let next = decide_board(states, s.cores, &rules, &mut marks, &mut ready, &mut moves);
-    Planned::new(pack(next), marks, ready.len, moves.count)
-}
-
-// The same, with one core by itself.
-fn plan_any(s: Sched, queue: &mut [u32], prios: &[u32], lanes: &mut [u64]) -> Planned
-    requires { PlanFits s queue.old prios.now lanes.old }
-    ensures { PlannedOf s queue.old queue.new prios.now lanes.old lanes.new result }
-{
-    if is_single(s) {
-        return plan_one(s, queue, prios, lanes);
-    }
-    plan(s, queue, prios, lanes)
+    let states = decided(
+        s.states, s.cores, &rules, &mut marks, &mut ready, &mut moves,
+    );
+    Planned::new(states, marks, ready.len, moves.count)
 }
 
 // The moves in the front of the lanes, written into the switch list and into the log: a ring of `events` entries that stands at `pos`.
@@ -177,32 +205,13 @@ fn after_tick(s: Sched, tick: Tick, c: Charged, p: Planned, w: Written) -> Sched
     requires { s.context_switches + w.takes < 2 ^ 64 }
     ensures { result ≡ ticked_sched s tick c p w }
 {
-    let Planned {
-        states,
-        marks,
-        queued,
-        ..
-    } = p;
-    let Marks {
-        exits,
-        blocks,
-        yields,
-        progressed,
-    } = marks;
     let Charged { ticks, lanes } = c;
+    let taken = p.taken(s, w);
     Sched {
-        queued,
         now: tick,
-        context_switches: s.context_switches + w.takes,
-        states,
-        exits,
-        blocks,
-        yields,
-        progressed,
         ticks,
-        log: w.log,
         lanes,
-        ..s
+        ..taken
     }
 }
 
@@ -211,7 +220,7 @@ fn plan_quiet(s: Sched) -> Planned
     requires { (s.cores ≤ 8) × (is_quiet s ≡ true) × Roomy s }
     ensures { (result.moves ≡ 0) × ((qs ps ws : List ℕ) → PlannedOf s qs qs ps ws ws result) }
 {
-    Planned::new(sliced_states(s), marks_of(s), s.queued, 0)
+    Planned::new(sliced_states(s), s.marks, s.queued, 0)
 }
 
 // What no moves come to.
@@ -230,7 +239,7 @@ fn tick_quiet(s: Sched, charged: Charged, lanes: &[u64]) -> Decided
     requires { (s.cores ≤ 8) × (is_quiet s ≡ true) × Roomy s × (s.now.0 + 1 < 2 ^ 64) }
     ensures { (ts : List ThreadInfo) (qs ps ls ws ws' : List ℕ) → Valid s (memory ts qs ps ls ws) → tick_refusal s ≡ none
         → ChargedOf s ws ws' charged
-        → TickPending result.answer result.switches s result.sched result.moves ts qs qs ps ls ls ws ws' }
+        → TickPending result.answer result.switches s result.sched result.moves (memory ts qs ps ls ws) (memory ts qs ps ls ws') }
 {
     let planned = plan_quiet(s);
     let tick = next_tick(s);
@@ -244,23 +253,22 @@ fn tick_quiet(s: Sched, charged: Charged, lanes: &[u64]) -> Decided
 }
 
 // A tick end that is not refused.
-fn tick_taken(
-    s: Sched,
-    queue: &mut [u32],
-    prios: &[u32],
-    log: &mut [u64],
-    lanes: &mut [u64],
-) -> Decided
-    requires { (tick_refusal s ≡ none) × ((ts : List ThreadInfo) × Valid s (memory ts queue.old prios.now log.old lanes.old)) }
-    ensures { (ts : List ThreadInfo) → Valid s (memory ts queue.old prios.now log.old lanes.old)
-        → TickPending result.answer result.switches s result.sched result.moves ts
-        queue.old queue.new prios.now log.old log.new lanes.old lanes.new }
+fn tick_taken(s: Sched, m: &mut LentMemory) -> Decided
+    requires { (tick_refusal s ≡ none) × Valid s (held m.old) }
+    ensures done { TickPending result.answer result.switches s result.sched result.moves (held m.old) (held m.new) }
+    ensures records { m.new.threads.now ≡ m.old.threads.now }
+    ensures prios { m.new.prios.now ≡ m.old.prios.now }
+    ensures lent { SameLoans m.old m.new }
 {
+    let queue = &mut *m.queue;
+    let prios = &mut *m.prios;
+    let log = &mut *m.log;
+    let lanes = &mut *m.lanes;
     let charged = charge_tick(s, lanes);
     if is_quiet(s) {
         return tick_quiet(s, charged, lanes);
     }
-    let planned = plan_any(s, queue, prios, lanes);
+    let planned = plan(s, queue, prios, lanes);
     let tick = next_tick(s);
     let written = write_at(s.log, s.capacities.events, log, lanes, planned.moves, tick);
     Decided {
@@ -272,26 +280,21 @@ fn tick_taken(
 }
 
 // All of a tick end but what it does to the thread records.
-pub fn tick_decided(
-    s: Sched,
-    queue: &mut [u32],
-    prios: &[u32],
-    log: &mut [u64],
-    lanes: &mut [u64],
-) -> Decided
-    requires { (ts : List ThreadInfo) × Valid s (memory ts queue.old prios.now log.old lanes.old) }
-    ensures { (ts : List ThreadInfo) → Valid s (memory ts queue.old prios.now log.old lanes.old)
-        → TickPending result.answer result.switches s result.sched result.moves ts
-        queue.old queue.new prios.now log.old log.new lanes.old lanes.new }
+pub fn tick_decided(s: Sched, m: &mut LentMemory) -> Decided
+    requires { Valid s (held m.old) }
+    ensures done { TickPending result.answer result.switches s result.sched result.moves (held m.old) (held m.new) }
+    ensures records { m.new.threads.now ≡ m.old.threads.now }
+    ensures prios { m.new.prios.now ≡ m.old.prios.now }
+    ensures lent { SameLoans m.old m.new }
 {
     let answer = check_tick(s);
     match answer {
         Err(_) => Decided {
             sched: s,
             answer,
-            switches: switch_list(lanes, 0),
+            switches: no_switches(),
             moves: 0,
         },
-        Ok(()) => tick_taken(s, queue, prios, log, lanes),
+        Ok(()) => tick_taken(s, m),
     }
 }

@@ -1,9 +1,8 @@
 -- What a load leaves: a scheduler that `new` made, spawns by thread 0, and then turns.
-use Rattle.std.specs.Prelude.{ℕ, ◌≡◌, List, ◌++◌, length}
+use Rattle.std.specs.Prelude.{ℕ, ◌≡◌, ◌++◌, length}
 use Rattle.std.proofs.Math.Option.{Option, none, some}
 use Rattle.settings.specs.declared.SchedConfig.{SchedConfig}
 use Rattle.settings.specs.Reading.{policy_meant}
-use Rattle.model.specs.declared.ThreadInfo.{ThreadInfo}
 use Rattle.model.specs.Types.{State}
 use Rattle.model.specs.Calls.{run, new, made}
 use Rattle.state.specs.declared.Capacities.{Capacities}

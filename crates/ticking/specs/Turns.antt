@@ -1,10 +1,9 @@
 -- What spawns by thread 0 leave, and what turns of a scheduler leave: in each turn every core reports, and the tick ends.
 use Rattle.std.specs.Prelude.{ℕ, zero, suc, ◌≡◌, List, [], ◌∷◌, ◌++◌}
 use Rattle.std.proofs.Math.Option.{some}
-use Rattle.model.specs.declared.ThreadInfo.{ThreadInfo}
 use Rattle.model.specs.Calls.{Call, spawn, retired, tick, run}
 use Rattle.state.specs.declared.Sched.{Sched}
-use Rattle.state.specs.Memory.{Memory, memory}
+use Rattle.state.specs.Memory.{Memory}
 use Rattle.state.specs.State.{meant, Valid}
 use Rattle.replay.specs.Replay.{Behind}
 
@@ -28,21 +27,13 @@ pub record Ran (cs : List Call) (s s' : Sched) (m m' : Memory) : Type 0 where
   -- memory that the capacities do not name stays as it was
   pub behind : Behind s.capacities.threads s.capacities.events s.capacities.segments s.cores m m'
 
--- What so many turns leave. No turn asks nothing, and leaves everything as it was.
-pub record TurnsDone (ticks : ℕ) (s s' : Sched) (ts ts' : List ThreadInfo) (qs qs' ps ls ls' ws ws' : List ℕ) : Type 0 where
-  pub unmoved : ticks ≡ 0 → (s' ≡ s) × (ts' ≡ ts) × (qs' ≡ qs) × (ls' ≡ ls) × (ws' ≡ ws)
-  pub ran : Valid s (memory ts qs ps ls ws) → Ran (turns s.cores ticks) s s' (memory ts qs ps ls ws) (memory ts' qs' ps ls' ws')
+-- What the calls `cs` of so many turns or spawns leave. None asks nothing, and leaves everything as it was.
+pub record CallsDone (count : ℕ) (cs : List Call) (s s' : Sched) (m m' : Memory) : Type 0 where
+  pub unmoved : count ≡ 0 → (s' ≡ s) × (m' ≡ m)
+  pub ran : Valid s m → Ran cs s s' m m'
 
--- What so many spawns leave; they leave the lanes, whatever these hold. No spawn asks nothing, and leaves everything as it was.
-pub record SpawnsDone (count : ℕ) (s s' : Sched) (ts ts' : List ThreadInfo) (qs qs' ps ps' ls ls' : List ℕ) : Type 0 where
-  pub unmoved : count ≡ 0 → (s' ≡ s) × (ts' ≡ ts) × (qs' ≡ qs) × (ps' ≡ ps) × (ls' ≡ ls)
-  pub ran : (ws : List ℕ) → Valid s (memory ts qs ps ls ws) → Ran (spawns count) s s' (memory ts qs ps ls ws) (memory ts' qs' ps' ls' ws)
+abbrev pub TurnsDone : (ticks : ℕ) → Sched → Sched → Memory → Memory → Type 0
+TurnsDone n s s' m m' = CallsDone n (turns s.cores n) s s' m m'
 
--- `s` is what `new` or a call left, with some lent memory
-pub record Lent (s : Sched) : Type 0 where
-  pub threads : List ThreadInfo
-  pub queue : List ℕ
-  pub prios : List ℕ
-  pub log : List ℕ
-  pub lanes : List ℕ
-  pub valid : Valid s (memory threads queue prios log lanes)
+abbrev pub SpawnsDone : (count : ℕ) → Sched → Sched → Memory → Memory → Type 0
+SpawnsDone n s s' m m' = CallsDone n (spawns n) s s' m m'

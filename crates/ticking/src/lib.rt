@@ -4,11 +4,11 @@
 #![tactic(auto)]
 
 ghost use Rattle.std.specs.Prelude.{◌≡◌, List, ℕ, ◌<◌};
-ghost use Rattle.model.specs.declared.ThreadInfo.{ThreadInfo};
-ghost use Rattle.state.specs.Memory.{memory};
+ghost use Rattle.state.specs.Memory.{Memory, memory, held, SameLoans};
+ghost use Rattle.state.specs.Asked.{Askable, nothing};
 ghost use Rattle.state.specs.State.{Valid};
 ghost use Rattle.checks.specs.Check.{check_meant};
-ghost use Rattle.ticking.specs.Turns.{reports, Ran, TurnsDone, SpawnsDone, Lent};
+ghost use Rattle.ticking.specs.Turns.{reports, Ran, TurnsDone, SpawnsDone};
 ghost use Rattle.ticking.specs.Load.{due, LoadDone};
 
 use model::{CoreId, ThreadInfo, Tid};
@@ -18,6 +18,7 @@ use sched_new::new;
 use sched_threads::spawn;
 use sched_tick::end_tick;
 use settings::{Refusal, SchedConfig};
+use state::memory::LentMemory;
 use state::{Capacities, Sched};
 
 // What `new` answered, and what is left.
@@ -29,9 +30,8 @@ pub struct Loaded {
 
 // Every core reports.
 fn retired_all(s: Sched) -> Sched
-    requires { Lent s }
-    ensures { (ts : List ThreadInfo) (qs ps ls ws : List ℕ) → Valid s (memory ts qs ps ls ws) → Ran (reports s.cores) s result
-        (memory ts qs ps ls ws) (memory ts qs ps ls ws) }
+    requires { Askable s nothing }
+    ensures { (m : Memory) → Valid s m → Ran (reports s.cores) s result m m }
 {
     let mut next = s;
     for core in 0..s.cores {
@@ -42,23 +42,16 @@ fn retired_all(s: Sched) -> Sched
 }
 
 // So many ticks, each on what the one before left.
-pub fn run_ticks(
-    first: Sched,
-    ticks: usize,
-    threads: &mut [ThreadInfo],
-    queue: &mut [u32],
-    prios: &[u32],
-    log: &mut [u64],
-    lanes: &mut [u64],
-) -> Sched
-    requires { 0 < ticks → Valid first (memory threads.old queue.old prios.now log.old lanes.old) }
-    ensures { TurnsDone ticks first result threads.old threads.new
-        queue.old queue.new prios.now log.old log.new lanes.old lanes.new }
+pub fn run_ticks(first: Sched, ticks: usize, m: &mut LentMemory) -> Sched
+    requires { 0 < ticks → Valid first (held m.old) }
+    ensures done { TurnsDone ticks first result (held m.old) (held m.new) }
+    ensures prios { m.new.prios.now ≡ m.old.prios.now }
+    ensures lent { SameLoans m.old m.new }
 {
     let mut last = first;
     for _ in 0..ticks {
         let reported = retired_all(last);
-        let t = end_tick(reported, threads, queue, prios, log, lanes);
+        let t = end_tick(reported, m);
         last = t.sched;
     }
     last
@@ -74,8 +67,9 @@ pub fn spawn_all(
     log: &mut [u64],
 ) -> Sched
     requires { 0 < count → (ws : List ℕ) × Valid first (memory threads.old queue.old prios.old log.old ws) }
-    ensures { SpawnsDone count first result threads.old threads.new
-        queue.old queue.new prios.old prios.new log.old log.new }
+    ensures { (ws : List ℕ) → SpawnsDone count first result
+        (memory threads.old queue.old prios.old log.old ws)
+        (memory threads.new queue.new prios.new log.new ws) }
 {
     let parent = Some(Tid(0));
     let mut last = first;
@@ -103,22 +97,20 @@ pub fn run_load(
     capacities: Capacities,
     count: usize,
     ticks: usize,
-    threads: &mut [ThreadInfo],
-    queue: &mut [u32],
-    prios: &mut [u32],
-    log: &mut [u64],
-    lanes: &mut [u64],
+    m: &mut LentMemory,
 ) -> Loaded
-    ensures { LoadDone config cores capacities count ticks (memory threads.old queue.old prios.old log.old lanes.old)
-        (memory threads.new queue.new prios.new log.new lanes.new) result }
+    ensures done { LoadDone config cores capacities count ticks (held m.old) (held m.new) result }
+    ensures lent { SameLoans m.old m.new }
 {
-    let created = new(
-        config, cores, capacities, 0, threads, queue, prios, log, lanes,
-    );
+    let created = new(config, cores, capacities, 0, m);
     let spawns = calls_due(created, count);
+    let threads = &mut *m.threads;
+    let queue = &mut *m.queue;
+    let prios = &mut *m.prios;
+    let log = &mut *m.log;
     let first = spawn_all(created.sched, spawns, threads, queue, prios, log);
     let turns = calls_due(created, ticks);
-    let last = run_ticks(first, turns, threads, queue, prios, log, lanes);
+    let last = run_ticks(first, turns, m);
     Loaded {
         made: created.answer,
         sched: last,

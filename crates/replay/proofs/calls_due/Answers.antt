@@ -6,7 +6,7 @@ use Rattle.replay.specs.Replay.{due}
 use Rattle.replay.proofs.calls_due.Goals as goal
 
 pub returns-in-Ok : goal.returns-in-Ok
-returns-in-Ok c = c.min.ensures ∙ ap (λ (x : Result Unit Refusal). due (check_meant x) c.args.words c.args.upto) (sym c.in-Ok.is)
+returns-in-Ok c = c.min.ensures ∙ ap (λ (x : Result Unit Refusal). due (check_meant x) c.args.count c.args.upto) (sym c.in-Ok.is)
 
 pub returns-in-Err : goal.returns-in-Err
-returns-in-Err c = ap (λ (x : Result Unit Refusal). due (check_meant x) c.args.words c.args.upto) (sym c.in-Err.is)
+returns-in-Err c = ap (λ (x : Result Unit Refusal). due (check_meant x) c.args.count c.args.upto) (sym c.in-Err.is)

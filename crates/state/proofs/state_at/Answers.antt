@@ -5,7 +5,6 @@ use lib.ListN.{get_or, get_or-eq_default}
 use Rattle.model.specs.declared.CoreState as Program
 use Rattle.model.specs.declared.CoreState.TheVariants
 use Rattle.state.specs.State.{states_of}
-use Rattle.state.proofs.unpack.Reads as unpack-reads
 use Rattle.state.proofs.state_at.Goals as goal
 
 pub returns-then-i-ge8 : goal.returns-then-i-ge8

@@ -1,5 +1,5 @@
 -- How many calls are due, by what `new` answered.
-use Rattle.std.specs.Prelude.{Result, Ok, Err}
+use Rattle.std.specs.Prelude.{Result}
 use Rattle.settings.specs.declared.Refusal.{Refusal}
 use mathlib.Core.Path.{sym, ap}
 use Rattle.checks.specs.Check.{check_meant}

@@ -7,7 +7,7 @@ pub loop-core-init : goal.loop-core-init
 loop-core-init c = reported-none c.args.s
 
 pub overflow_cast-core : goal.overflow_cast-core
-overflow_cast-core c = record { fits = omega (arith, c.requires.valid.sizes.cores) }
+overflow_cast-core c = record { fits = omega (arith, c.requires.1.sizes.cores) }
 
 pub retired-answered-requires : goal.retired-answered-requires
 retired-answered-requires c = reported-asks _ _ _ c.requires c.loop-core.invariant
