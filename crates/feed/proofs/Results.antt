@@ -2,16 +2,20 @@
 use Rattle.std.specs.Prelude.{Result}
 use Rattle.settings.specs.declared.Refusal.{Refusal}
 use Prim.Native.Nat.{ℕ, ◌≤◌}
-use mathlib.Core.Path.{◌≡◌, sym, subst}
+use mathlib.Core.Path.{◌≡◌, refl, sym, ◌∙◌, subst}
 use mathlib.Core.List.{List}
 use native.Mathlib.Omega.{arith}
 use lib.ListN.{length}
+use Rattle.std.specs.Borrow.{MutBor}
+use Rattle.text.specs.Buffers.{StillLent}
 use Rattle.model.specs.declared.ThreadInfo.{ThreadInfo}
 use Rattle.model.specs.Accounting.{total}
 use Rattle.record_reads.specs.Totals.{totals_of, TotalsFit}
 use Rattle.threads.specs.Slice.{threads_in}
 use Rattle.state.specs.declared.Sched.{Sched}
-use Rattle.state.specs.State.{meant_at}
+use Rattle.state.specs.declared.memory.LentMemory.{LentMemory}
+use Rattle.state.specs.Memory.{Memory, held, SameLoans}
+use Rattle.state.specs.State.{meant}
 use Rattle.summary.proofs.Totaling.{totals-room}
 use Rattle.script.specs.Report as Definition
 use Rattle.feed_plan.specs.declared.Stage.{Stage}
@@ -25,31 +29,52 @@ use Rattle.feed_plan.specs.Steps.{fed_of, records_in}
 use Rattle.feed_plan.specs.Feeding.{LineRead, LineDone, Sayable, SaidAs, FeedDone}
 use Rattle.feed_plan.proofs.Feeding.{sayable, feed-done}
 
+---- the loans
+
+still : {A : Type 0} (a : MutBor (List A)) → StillLent a a
+still a = record { same = refl; long = refl }
+
+still-then : {A : Type 0} {a b c : MutBor (List A)} → StillLent a b → StillLent b c → StillLent a c
+still-then h k = record { same = k.same ∙ h.same; long = k.long ∙ h.long }
+
+pub same-loans : (m : LentMemory) → SameLoans m m
+same-loans m = record { threads = still m.threads; queue = still m.queue; prios = still m.prios; log = still m.log; lanes = still m.lanes }
+
+pub loans-then : {m n o : LentMemory} → SameLoans m n → SameLoans n o → SameLoans m o
+loans-then h k =
+    record {
+      threads = still-then h.threads k.threads;
+      queue = still-then h.queue k.queue;
+      prios = still-then h.prios k.prios;
+      log = still-then h.log k.log;
+      lanes = still-then h.lanes k.lanes;
+    }
+
 ---- a line
 
 -- the slices keep their lengths
-pub record Long (ts ts' : List ThreadInfo) (qs qs' ps ps' ls ls' ws ws' : List ℕ) : Type 0 where
-  pub threads : length ts' ≡ length ts
-  pub queue : length qs' ≡ length qs
-  pub prios : length ps' ≡ length ps
-  pub log : length ls' ≡ length ls
-  pub lanes : length ws' ≡ length ws
+pub roomy-kept : (old new : LentMemory) → SameLoans old new → Roomy (held old) → Roomy (held new)
+roomy-kept old new l k =
+    record {
+      threads = rw l.threads.long k.threads;
+      queue = rw l.queue.long k.queue;
+      prios = rw l.prios.long k.prios;
+      log = rw l.log.long k.log;
+      lanes = rw l.lanes.long k.lanes;
+    }
 
-pub roomy-kept : (ts ts' : List ThreadInfo) (qs qs' ps ps' ls ls' ws ws' : List ℕ) → Long ts ts' qs qs' ps ps' ls ls' ws ws' → Roomy ts qs ps ls ws → Roomy ts' qs' ps' ls' ws'
-roomy-kept ts ts' qs qs' ps ps' ls ls' ws ws' l k = record { threads = rw l.threads k.threads; queue = rw l.queue k.queue; prios = rw l.prios k.prios; log = rw l.log k.log; lanes = rw l.lanes k.lanes }
-
-module _ (r : Report) (line : List ℕ) (ts : List ThreadInfo) (qs ps ls ws : List ℕ) (v : ReportValid r ts qs ps ls ws) where
+module _ (r : Report) (line : List ℕ) (m : Memory) (v : ReportValid r m) where
   module _ (x : Result Line Refusal) (k : LineRead r line x) where
-    read-says : Definition.feed (report_meant r ts qs ls ws) line ≡ fed_of (report_meant r ts qs ls ws) x
+    read-says : Definition.feed (report_meant r m) line ≡ fed_of (report_meant r m) x
     unfolding report_meant
-    read-says = k.says (meant_at r.sched ts qs ls ws)
+    read-says = k.says (meant r.sched m)
 
-    module _ (b : List ℕ) (ts' : List ThreadInfo) (qs' ps' ls' ws' : List ℕ) (y : Next) (c : LineDone r x ts ts' qs qs' ps ps' ls ls' ws ws' y) (room : 288 ≤ length b) where
+    module _ (b : List ℕ) (m' : Memory) (y : Next) (c : LineDone r x m m' y) (room : 288 ≤ length b) where
       pub says-it : Sayable y b
-      says-it = sayable r line ts qs ps ls ws v x ts' qs' ps' ls' ws' y read-says c b room
+      says-it = sayable r line m v x m' y read-says c b room
 
-      pub fed : Long ts ts' qs qs' ps ps' ls ls' ws ws' → (b' : List ℕ) (z : Fed) → SaidAs y b b' z → FeedDone r line b b' ts ts' qs qs' ps ps' ls ls' ws ws' z
-      fed l b' z s = feed-done r line ts qs ps ls ws v x ts' qs' ps' ls' ws' y read-says c b b' z (roomy-kept ts ts' qs qs' ps ps' ls ls' ws ws' l v.memory) s
+      pub fed : Roomy m' → (b' : List ℕ) (z : Fed) → SaidAs y b b' z → FeedDone r line b b' m m' z
+      fed roomy b' z s = feed-done r line m v x m' y read-says c b b' z roomy s
 
 ---- the end of a script
 
@@ -71,12 +96,11 @@ module _ (ts : List ThreadInfo) where
     },
   )
 
-  pub records-fit : (g : Stage) (s : Sched) (qs ps ls ws : List ℕ) → Held g s ts qs ps ls ws → (records_in g s ≤ length ts) × TotalsFit (totals_of (threads_in ts (records_in g s)))
-  records-fit StageCases.Heads s qs ps ls ws h = no-records
-  records-fit StageCases.Calls s qs ps ls ws h = totals-room s ts qs ps ls ws h
-  records-fit StageCases.Ended s qs ps ls ws h = totals-room s ts qs ps ls ws h
-  records-fit StageCases.Over s qs ps ls ws h = no-records
+pub records-fit : (g : Stage) (s : Sched) (m : Memory) → Held g s m → (records_in g s ≤ length m.threads) × TotalsFit (totals_of (threads_in m.threads (records_in g s)))
+records-fit StageCases.Heads s m h = no-records m.threads
+records-fit StageCases.Calls s m h = totals-room s m.threads m.queue m.prios m.log m.lanes h
+records-fit StageCases.Ended s m h = totals-room s m.threads m.queue m.prios m.log m.lanes h
+records-fit StageCases.Over s m h = no-records m.threads
 
-module _ (r : Report) (ts : List ThreadInfo) (n : ℕ) (e : n ≡ records_in r.stage r.sched) where
-  pub totals-fit : (qs ps ls ws : List ℕ) → ReportValid r ts qs ps ls ws → (n ≤ length ts) × TotalsFit (totals_of (threads_in ts n))
-  totals-fit qs ps ls ws v = subst (λ (k : ℕ). (k ≤ length ts) × TotalsFit (totals_of (threads_in ts k))) (sym e) (records-fit ts r.stage r.sched qs ps ls ws v.held)
+pub totals-fit : (r : Report) (n : ℕ) (e : n ≡ records_in r.stage r.sched) (m : Memory) → ReportValid r m → (n ≤ length m.threads) × TotalsFit (totals_of (threads_in m.threads n))
+totals-fit r n e m v = subst (λ (k : ℕ). (k ≤ length m.threads) × TotalsFit (totals_of (threads_in m.threads k))) (sym e) (records-fit r.stage r.sched m v.held)

@@ -6,6 +6,7 @@
 ghost use Rattle.std.specs.Prelude.{List, ℕ, ◌≤◌, length};
 ghost use Rattle.text.specs.Buffers.{Put};
 ghost use Rattle.script.specs.Report.{finish as Report·finish};
+ghost use Rattle.state.specs.Memory.{memory, held, SameLoans};
 ghost use Rattle.feed_plan.specs.Meant.{report_meant, ReportValid};
 ghost use Rattle.feed_plan.specs.Feeding.{LineAsked, LineDone, FeedDone};
 
@@ -17,71 +18,42 @@ use model::ThreadInfo;
 use sched::apply;
 use sched_new::new;
 use settings::Refusal;
+use state::memory::LentMemory;
 use threads::totals;
 
 // What a line that was read makes of the report: the scheduler is made, or called, or left as it is.
-pub fn advance(
-    r: Report,
-    line: Result<Line, Refusal>,
-    threads: &mut [ThreadInfo],
-    queue: &mut [u32],
-    prios: &mut [u32],
-    log: &mut [u64],
-    lanes: &mut [u64],
-) -> Next
-    requires { LineAsked r line threads.old queue.old prios.old log.old lanes.old }
-    ensures { LineDone r line threads.old threads.new queue.old queue.new prios.old prios.new log.old log.new lanes.old lanes.new result }
+pub fn advance(r: Report, line: Result<Line, Refusal>, m: &mut LentMemory) -> Next
+    requires { LineAsked r line (held m.old) }
+    ensures done { LineDone r line (held m.old) (held m.new) result }
+    ensures lent { SameLoans m.old m.new }
 {
     match line {
         Err(k) => refused(r, k),
         Ok(Line::Nothing) => quiet(r),
         Ok(Line::Head(head)) => headed(r, head),
         Ok(Line::Start { config, cores }) => {
-            of_created(
-                r,
-                new(
-                    config,
-                    cores,
-                    capacities(),
-                    0,
-                    threads,
-                    queue,
-                    prios,
-                    log,
-                    lanes,
-                ),
-            )
+            of_created(r, new(config, cores, capacities(), 0, m))
         }
-        Ok(Line::Call(call)) => {
-            of_applied(r, apply(r.sched, call, threads, queue, prios, log, lanes))
-        }
+        Ok(Line::Call(call)) => of_applied(r, apply(r.sched, call, m)),
     }
 }
 
 // One line, its byte 10 included: what it prints is put at the front of `out`.
-pub fn feed(
-    r: Report,
-    line: &[u8],
-    out: &mut [u8],
-    threads: &mut [ThreadInfo],
-    queue: &mut [u32],
-    prios: &mut [u32],
-    log: &mut [u64],
-    lanes: &mut [u64],
-) -> Fed
-    requires { ReportValid r threads.old queue.old prios.old log.old lanes.old × (288 ≤ length out.old) }
-    ensures { FeedDone r line.now out.old out.new threads.old threads.new queue.old queue.new prios.old prios.new log.old log.new lanes.old lanes.new result }
+pub fn feed(r: Report, line: &[u8], out: &mut [u8], m: &mut LentMemory) -> Fed
+    requires { ReportValid r (held m.old) × (288 ≤ length out.old) }
+    ensures done { FeedDone r line.now out.old out.new (held m.old) (held m.new) result }
+    ensures lent { SameLoans m.old m.new }
 {
     let said = read_line(r, line);
-    let next = advance(r, said, threads, queue, prios, log, lanes);
+    let next = advance(r, said, m);
     put_next(next, out)
 }
 
 // What stands at the end of a script, put at the front of `out`.
 pub fn finish(r: Report, out: &mut [u8], threads: &[ThreadInfo]) -> usize
-    requires { ((qs : List ℕ) × (ps : List ℕ) × (ls : List ℕ) × (ws : List ℕ) × ReportValid r threads.now qs ps ls ws) × (400 ≤ length out.old) }
-    ensures { (qs ps ls ws : List ℕ) → ReportValid r threads.now qs ps ls ws
-        → Put out.old 0 (Report·finish (report_meant r threads.now qs ls ws)) out.new result }
+    requires { ((qs : List ℕ) × (ps : List ℕ) × (ls : List ℕ) × (ws : List ℕ) × ReportValid r (memory threads.now qs ps ls ws)) × (400 ≤ length out.old) }
+    ensures { (qs ps ls ws : List ℕ) → ReportValid r (memory threads.now qs ps ls ws)
+        → Put out.old 0 (Report·finish (report_meant r (memory threads.now qs ps ls ws))) out.new result }
 {
     let sums = totals(threads, record_count(r));
     put_end(r, sums, out)

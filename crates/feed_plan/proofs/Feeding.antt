@@ -16,15 +16,14 @@ use Rattle.settings.specs.Reading.{refusal_number}
 use Rattle.rcfg.specs.declared.Head as Heads
 use Rattle.rcfg.specs.Reading.{head_meant}
 use Rattle.script.specs.Invariants.{Kept}
-use Rattle.model.specs.declared.ThreadInfo.{ThreadInfo}
 use Rattle.model.specs.Types.{State}
 use Rattle.model.specs.Calls as Calls
 use Rattle.model.specs.Calls.{check, refused_new, made_of, new, unmade, made, step}
 use Rattle.model.proofs.Refusals.{check-none, check-rest}
 use Rattle.checks.specs.Check.{check_meant}
 use Rattle.state.specs.declared.Sched.{Sched}
-use Rattle.state.specs.Memory.{memory}
-use Rattle.state.specs.State.{meant_at, lane_start}
+use Rattle.state.specs.Memory.{Memory, Unchanged}
+use Rattle.state.specs.State.{meant_at, meant, lane_start}
 use Rattle.switches.specs.Entries.{no_switches}
 use Rattle.tick_plan.specs.DoneWith.{DoneWith}
 use Rattle.new_plan.specs.declared.Created.{Created}
@@ -77,36 +76,36 @@ module _ (h : Heads.Head) (s : State) (n : ℕ) where
   in-calls : (g : Stage) → g ≡ StageCases.Calls → n + 1 ≡ suc (lines_in (stage_meant g h s) n)
   in-calls g e = counts g (subst Counts (sym e) tt)
 
-module _ (s : Sched) (ts : List ThreadInfo) (qs ps ls ws : List ℕ) where
-  refused-held : (g : Stage) → Held g s ts qs ps ls ws → Held (refused_stage g) s ts qs ps ls ws
+module _ (s : Sched) (m : Memory) where
+  refused-held : (g : Stage) → Held g s m → Held (refused_stage g) s m
   refused-held StageCases.Heads k = tt
   refused-held StageCases.Calls k = k
   refused-held StageCases.Ended k = k
   refused-held StageCases.Over k = tt
 
-module _ (r : Report) (ts : List ThreadInfo) (qs ps ls ws : List ℕ) where
-  pub refused-done : (k : Refusal) (l : Result Line Refusal) → Counts r.stage → r.lines ≤ 1_000_000_000_000 → Held r.stage r.sched ts qs ps ls ws
-      → fed_of (report_meant r ts qs ls ws) l ≡ fed_of (report_meant r ts qs ls ws) (Err k) → LineDone r l ts ts qs qs ps ps ls ls ws ws (refused_next r k)
+module _ (r : Report) (m : Memory) where
+  pub refused-done : (k : Refusal) (l : Result Line Refusal) → Counts r.stage → r.lines ≤ 1_000_000_000_000 → Held r.stage r.sched m
+      → fed_of (report_meant r m) l ≡ fed_of (report_meant r m) (Err k) → LineDone r l m m (refused_next r k)
   unfolding report_meant next_text answer_text no_switches
   refused-done k l c f h e =
-      let g : Definition.Stage = stage_meant r.stage r.head (meant_at r.sched ts qs ls ws) in
+      let g : Definition.Stage = stage_meant r.stage r.head (meant r.sched m) in
       record {
-        report = refuses r.head (meant_at r.sched ts qs ls ws) r.lines r.stage c ∙ sym (ap (λ (x : Definition.Fed). counting x.report) e);
-        text = ap (λ (m : ℕ). refused_text m (refusal_number k)) (counts r.head (meant_at r.sched ts qs ls ws) r.lines r.stage c) ∙ sym (ap (λ (x : Definition.Fed). x.out) e);
-        held = refused-held r.sched ts qs ps ls ws r.stage h;
+        report = refuses r.head (meant r.sched m) r.lines r.stage c ∙ sym (ap (λ (x : Definition.Fed). counting x.report) e);
+        text = ap (λ (i : ℕ). refused_text i (refusal_number k)) (counts r.head (meant r.sched m) r.lines r.stage c) ∙ sym (ap (λ (x : Definition.Fed). x.out) e);
+        held = refused-held r.sched m r.stage h;
         number = omega arith;
         listed = omega arith;
       }
 
-  pub quiet_done : LineAsked r (Ok LineCases.Nothing) ts qs ps ls ws → LineDone r (Ok LineCases.Nothing) ts ts qs qs ps ps ls ls ws ws (quiet_next r)
+  pub quiet_done : LineAsked r (Ok LineCases.Nothing) m → LineDone r (Ok LineCases.Nothing) m m (quiet_next r)
   unfolding report_meant next_text answer_text no_switches
-  quiet_done a = record { report = rests r.head (meant_at r.sched ts qs ls ws) r.lines r.stage a.fits; text = refl; held = a.held; number = omega arith; listed = omega arith }
+  quiet_done a = record { report = rests r.head (meant r.sched m) r.lines r.stage a.fits; text = refl; held = a.held; number = omega arith; listed = omega arith }
 
-  headed_done : (h : Heads.Head) → LineAsked r (Ok (LineCases.Head h)) ts qs ps ls ws → LineDone r (Ok (LineCases.Head h)) ts ts qs qs ps ps ls ls ws ws (headed_next r h)
+  headed_done : (h : Heads.Head) → LineAsked r (Ok (LineCases.Head h)) m → LineDone r (Ok (LineCases.Head h)) m m (headed_next r h)
   unfolding report_meant next_text answer_text no_switches
   headed_done h a =
       record {
-        report = ap (λ (m : ℕ). record { lines = m; stage = heads (head_meant h) }) (in-heads r.head (meant_at r.sched ts qs ls ws) r.lines r.stage a.fits.0);
+        report = ap (λ (i : ℕ). record { lines = i; stage = heads (head_meant h) }) (in-heads r.head (meant r.sched m) r.lines r.stage a.fits.0);
         text = refl;
         held = tt;
         number = omega arith;
@@ -114,8 +113,8 @@ module _ (r : Report) (ts : List ThreadInfo) (qs ps ls ws : List ℕ) where
       }
 
   -- the same of a line that is known to be one
-  pub headed-left : (l : Result Line Refusal) (h : Heads.Head) (y : Next) → l ≡ Ok (LineCases.Head h) → y ≡ headed_next r h → LineAsked r l ts qs ps ls ws → LineDone r l ts ts qs qs ps ps ls ls ws ws y
-  headed-left l h y e q a = rw (e, q) (headed_done h (subst (λ (x : Result Line Refusal). LineAsked r x ts qs ps ls ws) e a))
+  pub headed-left : (l : Result Line Refusal) (h : Heads.Head) (y : Next) → l ≡ Ok (LineCases.Head h) → y ≡ headed_next r h → LineAsked r l m → LineDone r l m m y
+  headed-left l h y e q a = rw (e, q) (headed_done h (subst (λ (x : Result Line Refusal). LineAsked r x m) e a))
 
 ---- the scheduler is made
 
@@ -124,53 +123,56 @@ unfolding core_count
 lanes_fit zero h = omega arith
 lanes_fit (suc n) h = omega arith
 
-module _ (c : SchedConfig) (n : ℕ) (ts : List ThreadInfo) (qs ps ls ws : List ℕ) (m : Roomy ts qs ps ls ws) where
+module _ (c : SchedConfig) (n : ℕ) (m : Memory) (roomy : Roomy m) where
   abbrev refused_by : Option ℕ
   refused_by = refused_new c.quantum c.switch_cost n 256 512 256
 
-  long-enough : refused_by ≡ none → is_short report_capacities n (length ts) (length qs) (length ps) (length ls) (length ws) ≡ false
+  long-enough : refused_by ≡ none → is_short report_capacities n (length m.threads) (length m.queue) (length m.prios) (length m.log) (length m.lanes) ≡ false
   unfolding is_short refused_new
   long-enough e =
       let few : n ≤ 8 = ltb-false 8 n (check-none 2 _ _ (check-rest 1 _ _ e)) in
-      rw (le-ltb (length ts) 256 m.threads, le-ltb (length qs) 256 m.queue, le-ltb (length ps) 256 m.prios, le-ltb (length ls) (2 * 512) m.log, le-ltb (length ws) (lane_start 256 (core_count n)) (omega (arith, m.lanes, lanes_fit n few)))
+      rw (le-ltb (length m.threads) 256 roomy.threads, le-ltb (length m.queue) 256 roomy.queue, le-ltb (length m.prios) 256 roomy.prios, le-ltb (length m.log) (2 * 512) roomy.log, le-ltb (length m.lanes) (lane_start 256 (core_count n)) (omega (arith, roomy.lanes, lanes_fit n few)))
 
-  made-refused : (k : ℕ) → new_refusal c n report_capacities (length ts) (length qs) (length ps) (length ls) (length ws) ≡ some k → refused_by ≡ some k
+  made-refused : (k : ℕ) → new_refusal c n report_capacities (length m.threads) (length m.queue) (length m.prios) (length m.log) (length m.lanes) ≡ some k → refused_by ≡ some k
   unfolding new_refusal check
   made-refused k e = go refused_by refl e
     where
-      go : (o : Option ℕ) → refused_by ≡ o → or_refusal o (check 3 (is_short report_capacities n (length ts) (length qs) (length ps) (length ls) (length ws)) none) ≡ some k → o ≡ some k
+      go : (o : Option ℕ) → refused_by ≡ o → or_refusal o (check 3 (is_short report_capacities n (length m.threads) (length m.queue) (length m.prios) (length m.log) (length m.lanes)) none) ≡ some k → o ≡ some k
       go (some x) q g = g
       go none q g = rw (long-enough q) at g
 
-module _ (r : Report) (c : SchedConfig) (n : ℕ) (ts ts' : List ThreadInfo) (qs ps ps' ls ls' ws : List ℕ) where
-  start-taken : (s : Sched) → r.stage ≡ StageCases.Heads → r.lines ≤ 1_000_000_000_000 → NewTaken c n report_capacities 0 (memory ts qs ps ls ws) (memory ts' qs ps' ls' ws) s
-      → LineDone r (Ok (LineCases.Start c n)) ts ts' qs qs ps ps' ls ls' ws ws (answered_next r s (Ok tt))
+unchanged-is : (m m' : Memory) → Unchanged m m' → m' ≡ m
+unchanged-is m m' u = λ i. record { threads = u.0 i; queue = u.1 i; prios = u.2 i; log = u.3 i; lanes = u.4 i }
+
+module _ (r : Report) (c : SchedConfig) (n : ℕ) (m m' : Memory) where
+  start-taken : (s : Sched) → r.stage ≡ StageCases.Heads → r.lines ≤ 1_000_000_000_000 → NewTaken c n report_capacities 0 m m' s
+      → LineDone r (Ok (LineCases.Start c n)) m m' (answered_next r s (Ok tt))
   unfolding report_meant next_text answer_text begun created no_switches
   start-taken s e f t =
       record {
-        report = ap (λ (m : ℕ). record { lines = m; stage = calls (meant_at s ts' qs ls' ws) }) (in-heads r.head (meant_at r.sched ts qs ls ws) r.lines r.stage e) ∙ sym (ap (λ (x : Calls.Made). counting (begun (suc (report_meant r ts qs ls ws).lines) x).report) t.state);
-        text = sym (ap (λ (x : Calls.Made). (begun (suc (report_meant r ts qs ls ws).lines) x).out) t.state);
+        report = ap (λ (i : ℕ). record { lines = i; stage = calls (meant s m') }) (in-heads r.head (meant r.sched m) r.lines r.stage e) ∙ sym (ap (λ (x : Calls.Made). counting (begun (suc (report_meant r m).lines) x).report) t.state);
+        text = sym (ap (λ (x : Calls.Made). (begun (suc (report_meant r m).lines) x).out) t.state);
         held = t.valid;
         number = omega arith;
         listed = omega arith;
       }
 
-  start-refused : (k : Refusal) → LineAsked r (Ok (LineCases.Start c n)) ts qs ps ls ws → new_refusal c n report_capacities (length ts) (length qs) (length ps) (length ls) (length ws) ≡ some (refusal_number k)
-      → LineDone r (Ok (LineCases.Start c n)) ts ts qs qs ps ps ls ls ws ws (refused_next r k)
+  start-refused : (k : Refusal) → LineAsked r (Ok (LineCases.Start c n)) m → new_refusal c n report_capacities (length m.threads) (length m.queue) (length m.prios) (length m.log) (length m.lanes) ≡ some (refusal_number k)
+      → LineDone r (Ok (LineCases.Start c n)) m m (refused_next r k)
   unfolding report_meant begun created new made_of
   start-refused k a e =
-      refused-done r ts qs ps ls ws k (Ok (LineCases.Start c n)) (subst Counts (sym a.fits.0) tt) a.fits.1 a.held
-      (rw (made-refused c n ts qs ps ls ws a.memory (refusal_number k) e, a.fits.0))
+      refused-done r m k (Ok (LineCases.Start c n)) (subst Counts (sym a.fits.0) tt) a.fits.1 a.held
+      (rw (made-refused c n m a.memory (refusal_number k) e, a.fits.0))
 
-  pub start-done : (x : Created) → LineAsked r (Ok (LineCases.Start c n)) ts qs ps ls ws → NewDone c n report_capacities 0 (memory ts qs ps ls ws) (memory ts' qs ps' ls' ws) x.sched x.answer
-      → LineDone r (Ok (LineCases.Start c n)) ts ts' qs qs ps ps' ls ls' ws ws (created_next r x)
+  pub start-done : (x : Created) → LineAsked r (Ok (LineCases.Start c n)) m → NewDone c n report_capacities 0 m m' x.sched x.answer
+      → LineDone r (Ok (LineCases.Start c n)) m m' (created_next r x)
   start-done x a d = go x.answer refl
     where
-      go : (y : Result Unit Refusal) → x.answer ≡ y → LineDone r (Ok (LineCases.Start c n)) ts ts' qs qs ps ps' ls ls' ws ws (answered_next r x.sched y)
+      go : (y : Result Unit Refusal) → x.answer ≡ y → LineDone r (Ok (LineCases.Start c n)) m m' (answered_next r x.sched y)
       go (Ok tt) e = start-taken x.sched a.fits.0 a.fits.1 (d.taken (ap check_meant e))
       go (Err k) e =
-          let g = d.refused (refusal_number k) (ap check_meant e) in
-          rw (g.0, g.2, g.3) (start-refused k a (sym d.answer ∙ ap check_meant e))
+          subst (λ (z : Memory). LineDone r (Ok (LineCases.Start c n)) m z (refused_next r k)) (sym (unchanged-is m m' (d.refused (refusal_number k) (ap check_meant e))))
+          (start-refused k a (sym d.answer ∙ ap check_meant e))
 
 ---- a call is applied
 
@@ -183,18 +185,18 @@ stepped-report n m s t p q = λ i. record { lines = p i; stage = calls (q i) }
 stepped-text : (n m : ℕ) (s t : State) (a b : Calls.Answer) → n ≡ m → s ≡ t → a ≡ b → answer_text n s.now a ≡ answer_text m t.now b
 stepped-text n m s t a b p q w = λ i. answer_text (p i) (q i).now (w i)
 
-pub call-done : (r : Report) (c : Call) (x : Applied) (ts ts' : List ThreadInfo) (qs qs' ps ps' ls ls' ws ws' : List ℕ) → LineAsked r (Ok (LineCases.Call c)) ts qs ps ls ws
-    → DoneWith (call_meant c) (outcome_meant x.outcome x.switches) x.switches r.sched x.sched (memory ts qs ps ls ws) (memory ts' qs' ps' ls' ws') → LineDone r (Ok (LineCases.Call c)) ts ts' qs qs' ps ps' ls ls' ws ws' (applied_next r x)
+pub call-done : (r : Report) (c : Call) (x : Applied) (m m' : Memory) → LineAsked r (Ok (LineCases.Call c)) m
+    → DoneWith (call_meant c) (outcome_meant x.outcome x.switches) x.switches r.sched x.sched m m' → LineDone r (Ok (LineCases.Call c)) m m' (applied_next r x)
 unfolding report_meant next_text said meant_at
-call-done r c x ts ts' qs qs' ps ps' ls ls' ws ws' a t =
+call-done r c x m m' a t =
     let d = t.done in
-    let s : State = meant_at r.sched ts qs ls ws in
+    let s : State = meant r.sched m in
     let n : ℕ = suc (lines_in (stage_meant r.stage r.head s) r.lines) in
     let e : r.lines + 1 ≡ n = in-calls r.head s r.lines r.stage a.fits.0 in
     let k : step_in n (stage_meant r.stage r.head s) (call_meant c) ≡ said n (step s (call_meant c)) = step_in_lem r.stage r.head s n (call_meant c) a.fits.0 in
     record {
-      report = stepped-report (r.lines + 1) n (meant_at x.sched ts' qs' ls' ws') (step s (call_meant c)).state e d.state ∙ sym (ap (λ (f : Definition.Fed). counting f.report) k);
-      text = stepped-text (r.lines + 1) n (meant_at x.sched ts' qs' ls' ws') (step s (call_meant c)).state _ _ e d.state d.answer ∙ sym (ap (λ (f : Definition.Fed). f.out) k);
+      report = stepped-report (r.lines + 1) n (meant x.sched m') (step s (call_meant c)).state e d.state ∙ sym (ap (λ (f : Definition.Fed). counting f.report) k);
+      text = stepped-text (r.lines + 1) n (meant x.sched m') (step s (call_meant c)).state _ _ e d.state d.answer ∙ sym (ap (λ (f : Definition.Fed). f.out) k);
       held = d.valid;
       number = omega arith;
       listed = t.list.few;
@@ -236,18 +238,18 @@ line-room (calls s) (some l) = call-room (call_line l)
 line-room (ended s) o = omega arith
 line-room over o = omega arith
 
-module _ (r : Report) (line : List ℕ) (ts : List ThreadInfo) (qs ps ls ws : List ℕ) (v : ReportValid r ts qs ps ls ws) where
+module _ (r : Report) (line : List ℕ) (m : Memory) (v : ReportValid r m) where
   pub lines-few : Few r.stage r.lines
   unfolding report_meant
-  lines-few = few-in r.stage r.head (meant_at r.sched ts qs ls ws) r.lines v.kept
+  lines-few = few-in r.stage r.head (meant r.sched m) r.lines v.kept
 
-  pub line-asked : (l : Result Line Refusal) → Fits r l → LineAsked r l ts qs ps ls ws
+  pub line-asked : (l : Result Line Refusal) → Fits r l → LineAsked r l m
   line-asked l f = record { fits = f; memory = v.memory; held = v.held }
 
   abbrev d : Definition.Report
-  d = report_meant r ts qs ls ws
+  d = report_meant r m
 
-  module _ (l : Result Line Refusal) (ts' : List ThreadInfo) (qs' ps' ls' ws' : List ℕ) (x : Next) (e : feed d line ≡ fed_of d l) (k : LineDone r l ts ts' qs qs' ps ps' ls ls' ws ws' x) where
+  module _ (l : Result Line Refusal) (m' : Memory) (x : Next) (e : feed d line ≡ fed_of d l) (k : LineDone r l m m' x) where
     same_text : next_text x ≡ (feed d line).out
     same_text = k.text ∙ sym (ap (λ (f : Definition.Fed). f.out) e)
 
@@ -256,17 +258,17 @@ module _ (r : Report) (line : List ℕ) (ts : List ThreadInfo) (qs ps ls ws : Li
         let w = feed-well d line v.kept in
         record { number = k.number; listed = k.listed; short = omega arith; long = rw same_text (omega (arith, w.fits, line-room d.stage (line_at (suc d.lines) line))) }
 
-    pub feed-done : (b b' : List ℕ) (f : Fed) → Roomy ts' qs' ps' ls' ws' → SaidAs x b b' f → FeedDone r line b b' ts ts' qs qs' ps ps' ls ls' ws ws' f
-    feed-done b b' f m z =
+    pub feed-done : (b b' : List ℕ) (f : Fed) → Roomy m' → SaidAs x b b' f → FeedDone r line b b' m m' f
+    feed-done b b' f roomy z =
         let w = feed-well d line v.kept in
-        let same : report_meant f.report ts' qs' ls' ws' ≡ counting (feed d line).report =
-        ap (λ (y : Report). report_meant y ts' qs' ls' ws') z.report ∙ k.report ∙ sym (ap (λ (y : Definition.Fed). counting y.report) e) in
+        let same : report_meant f.report m' ≡ counting (feed d line).report =
+        ap (λ (y : Report). report_meant y m') z.report ∙ k.report ∙ sym (ap (λ (y : Definition.Fed). counting y.report) e) in
         record {
           report = same;
           text = subst (λ (t : List ℕ). Put b 0 t b' f.written) same_text z.text;
           valid = record {
             kept = subst (λ (y : Definition.Report). Kept y.lines y.stage) (sym same) (kept-counting (feed d line).report.stage (feed d line).report.lines w.kept);
-            memory = m;
-            held = subst (λ (y : Report). Held y.stage y.sched ts' qs' ps' ls' ws') (sym z.report) k.held;
+            memory = roomy;
+            held = subst (λ (y : Report). Held y.stage y.sched m') (sym z.report) k.held;
           };
         }

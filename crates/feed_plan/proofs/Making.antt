@@ -5,17 +5,16 @@ use mathlib.Core.Path.{◌≡◌, ap, ◌∙◌, subst}
 use mathlib.Core.Logic.{◌⊎◌, inl, inr}
 use mathlib.Core.List.{List, []}
 use native.Mathlib.Omega.{arith}
-use lib.ListN.{length}
 use Rattle.settings.specs.declared.Refusal.{Refusal}
 use Rattle.settings.specs.Reading.{refusal_number}
-use Rattle.model.specs.declared.ThreadInfo.{ThreadInfo}
 use Rattle.model.specs.declared.Tid.{Tid}
 use Rattle.model.specs.declared.JoinOutcome.{JoinOutcome}
 use Rattle.model.specs.Reading.{join_meant, switches_meant}
 use Rattle.record_reads.specs.declared.totals.Totals.{Totals}
 use Rattle.record_reads.specs.Totals.{totals_of}
 use Rattle.threads.specs.Slice.{threads_in}
-use Rattle.state.specs.State.{meant_at}
+use Rattle.state.specs.Memory.{Memory}
+use Rattle.state.specs.State.{meant}
 use Rattle.summary.specs.Reading.{Summed}
 use Rattle.sched.specs.declared.Outcome.TheVariants as OutcomeCases
 use Rattle.script.specs.Report.{answer_text, refused_text, joined_text, switch_texts, summary, finishing, finish}
@@ -51,9 +50,6 @@ module _ (x : Next) where
   unfolding next_text answer_text
   text-spawned t e = rw e
 
-  pub switches-room : (n : ℕ) → x.outcome ≡ Ok OutcomeCases.Switched → length (next_text x) ≤ n → 0 + length (switch_texts x.report.sched.now.0 (switches_meant x.switches.entries x.switches.count)) ≤ n
-  switches-room n e h = rw (text-switched e) (omega arith)
-
 ---- the end of a script
 
 module _ (r : Report) where
@@ -61,32 +57,32 @@ module _ (r : Report) where
   few-at n g e h = subst (λ (x : Stage). Few x n) e h
 
   pub end-few : (n : Totals) (b : List ℕ) → EndAsked r n b → r.stage ≡ StageCases.Heads → r.lines ≤ 1_000_000_000_000
-  end-few n b a e = few-at r.lines r.stage e (lines-few r [] a.ts a.qs a.ps a.ls a.ws a.fits.valid)
+  end-few n b a e = few-at r.lines r.stage e (lines-few r [] a.memory a.fits.valid)
 
-  module _ (n : Totals) (ts : List ThreadInfo) (qs ps ls ws : List ℕ) (f : EndFits r n ts qs ps ls ws) where
-    calls-summed : r.stage ≡ StageCases.Calls → Summed r.sched n ts qs ps ls ws
-    calls-summed e = record { valid = subst (λ (x : Stage). Held x r.sched ts qs ps ls ws) e f.valid.held; totals = f.totals ∙ ap (λ (x : Stage). totals_of (threads_in ts (records_in x r.sched))) e }
+  module _ (n : Totals) (m : Memory) (f : EndFits r n m) where
+    calls-summed : r.stage ≡ StageCases.Calls → Summed r.sched n m.threads m.queue m.prios m.log m.lanes
+    calls-summed e = record { valid = subst (λ (x : Stage). Held x r.sched m) e f.valid.held; totals = f.totals ∙ ap (λ (x : Stage). totals_of (threads_in m.threads (records_in x r.sched))) e }
 
-    ended-summed : r.stage ≡ StageCases.Ended → Summed r.sched n ts qs ps ls ws
-    ended-summed e = record { valid = subst (λ (x : Stage). Held x r.sched ts qs ps ls ws) e f.valid.held; totals = f.totals ∙ ap (λ (x : Stage). totals_of (threads_in ts (records_in x r.sched))) e }
+    ended-summed : r.stage ≡ StageCases.Ended → Summed r.sched n m.threads m.queue m.prios m.log m.lanes
+    ended-summed e = record { valid = subst (λ (x : Stage). Held x r.sched m) e f.valid.held; totals = f.totals ∙ ap (λ (x : Stage). totals_of (threads_in m.threads (records_in x r.sched))) e }
 
-    pub end-summed : (r.stage ≡ StageCases.Calls) ⊎ (r.stage ≡ StageCases.Ended) → Summed r.sched n ts qs ps ls ws
+    pub end-summed : (r.stage ≡ StageCases.Calls) ⊎ (r.stage ≡ StageCases.Ended) → Summed r.sched n m.threads m.queue m.prios m.log m.lanes
     end-summed (inl e) = calls-summed e
     end-summed (inr e) = ended-summed e
 
-  module _ (ts : List ThreadInfo) (qs ls ws : List ℕ) where
+  module _ (m : Memory) where
     one_more : (n : ℕ) → n + 1 ≡ suc n
     one_more n = omega arith
 
-    pub end-heads : r.stage ≡ StageCases.Heads → refused_text (r.lines + 1) 6 ≡ finish (report_meant r ts qs ls ws)
+    pub end-heads : r.stage ≡ StageCases.Heads → refused_text (r.lines + 1) 6 ≡ finish (report_meant r m)
     unfolding finish finishing report_meant
-    end-heads e = rw e (ap (λ (m : ℕ). refused_text m 6) (one_more r.lines))
+    end-heads e = rw e (ap (λ (i : ℕ). refused_text i 6) (one_more r.lines))
 
-    pub end-summary : (r.stage ≡ StageCases.Calls) ⊎ (r.stage ≡ StageCases.Ended) → summary (meant_at r.sched ts qs ls ws) ≡ finish (report_meant r ts qs ls ws)
+    pub end-summary : (r.stage ≡ StageCases.Calls) ⊎ (r.stage ≡ StageCases.Ended) → summary (meant r.sched m) ≡ finish (report_meant r m)
     unfolding finish finishing report_meant
     end-summary (inl e) = rw e
     end-summary (inr e) = rw e
 
-    pub end-over : r.stage ≡ StageCases.Over → [] ≡ finish (report_meant r ts qs ls ws)
+    pub end-over : r.stage ≡ StageCases.Over → [] ≡ finish (report_meant r m)
     unfolding finish finishing report_meant
     end-over e = rw e

@@ -6,8 +6,8 @@ use native.Mathlib.Omega.{arith}
 use Rattle.settings.specs.Settings.{none_yet}
 use Rattle.rcfg.specs.declared.Head as Heads
 use Rattle.rcfg.specs.Reading.{head_meant}
-use Rattle.model.specs.declared.ThreadInfo.{ThreadInfo}
 use Rattle.state.specs.declared.Sched.{Sched}
+use Rattle.state.specs.Memory.{Memory}
 use Rattle.script.specs.Report.{heads, calls, ended, over, Stage, Report, feed, feeds, finish, whole}
 use Rattle.script.proofs.Streams.{whole-step, whole-end, whole-over, whole-ended}
 use Rattle.feed_plan.specs.declared.Report as Program
@@ -24,19 +24,19 @@ whole-counting n (ended s) ls = whole-ended 0 s ls ∙ sym (whole-ended n s ls)
 whole-counting n over ls = whole-over 0 ls ∙ sym (whole-over n ls)
 
 -- a line fed, and the rest of the script from what it left
-pub feed-whole : (r : Program.Report) (line b b' : List ℕ) (ts ts' : List ThreadInfo) (qs qs' ps ps' ls ls' ws ws' : List ℕ) (f : Feds.Fed) → FeedDone r line b b' ts ts' qs qs' ps ps' ls ls' ws ws' f → (more : List (List ℕ))
-    → whole (feeds (report_meant r ts qs ls ws) (line ∷ more)) ≡ (feed (report_meant r ts qs ls ws) line).out ++ whole (feeds (report_meant f.report ts' qs' ls' ws') more)
-feed-whole r line b b' ts ts' qs qs' ps ps' ls ls' ws ws' f k more =
-    let d : Report = report_meant r ts qs ls ws in
+pub feed-whole : (r : Program.Report) (line b b' : List ℕ) (m m' : Memory) (f : Feds.Fed) → FeedDone r line b b' m m' f → (more : List (List ℕ))
+    → whole (feeds (report_meant r m) (line ∷ more)) ≡ (feed (report_meant r m) line).out ++ whole (feeds (report_meant f.report m') more)
+feed-whole r line b b' m m' f k more =
+    let d : Report = report_meant r m in
     let e : Report = (feed d line).report in
     whole-step d line more ∙
     ap (λ (t : List ℕ). (feed d line).out ++ t) (sym (whole-counting e.lines e.stage more) ∙ sym (ap (λ (x : Report). whole (feeds x more)) k.report))
 
 -- at the end
-pub finish-whole : (r : Program.Report) (ts : List ThreadInfo) (qs ls ws : List ℕ) → whole (feeds (report_meant r ts qs ls ws) []) ≡ finish (report_meant r ts qs ls ws)
-finish-whole r ts qs ls ws = whole-end (report_meant r ts qs ls ws)
+pub finish-whole : (r : Program.Report) (m : Memory) → whole (feeds (report_meant r m) []) ≡ finish (report_meant r m)
+finish-whole r m = whole-end (report_meant r m)
 
 -- before the first line
 pub starts : (h : Heads.Head) (s : Sched) → head_meant h ≡ none_yet → Starts (record { lines = 0; stage = StageCases.Heads; head = h; sched = s })
 unfolding report_meant
-starts h s e = record { report = λ ts qs ls ws. (λ i. record { lines = 0; stage = heads (e i) }); valid = λ ts qs ps ls ws m. record { kept = omega arith; memory = m; held = tt } }
+starts h s e = record { report = λ m. (λ i. record { lines = 0; stage = heads (e i) }); valid = λ m roomy. record { kept = omega arith; memory = roomy; held = tt } }

@@ -1,13 +1,12 @@
 -- Which report of the definition a report of the program stands for, with the lent memory, and what holds of both between lines.
-use Rattle.std.specs.Prelude.{ℕ, ◌≤◌, List, length}
+use Rattle.std.specs.Prelude.{ℕ, ◌≤◌, length}
 use Rattle.rcfg.specs.declared.Head as Heads
 use Rattle.rcfg.specs.Reading.{head_meant}
 use Rattle.script.specs.Invariants.{Kept}
-use Rattle.model.specs.declared.ThreadInfo.{ThreadInfo}
 use Rattle.model.specs.Types.{State}
 use Rattle.state.specs.declared.Sched.{Sched}
-use Rattle.state.specs.Memory.{memory}
-use Rattle.state.specs.State.{meant_at, Valid}
+use Rattle.state.specs.Memory.{Memory}
+use Rattle.state.specs.State.{meant, Valid}
 use Rattle.script.specs.Report as Definition
 use Rattle.feed_plan.specs.declared.Stage.{Stage}
 use Rattle.feed_plan.specs.declared.Stage.TheVariants as StageCases
@@ -33,8 +32,8 @@ counting d = record { lines = lines_in d.stage d.lines; stage = d.stage }
 abbrev pub report_at : Report → State → Definition.Report
 report_at r s = counting (record { lines = r.lines; stage = stage_meant r.stage r.head s })
 
-unfoldable pub report_meant : Report → List ThreadInfo → (queue log lanes : List ℕ) → Definition.Report
-report_meant r ts qs ls ws = report_at r (meant_at r.sched ts qs ls ws)
+unfoldable pub report_meant : Report → Memory → Definition.Report
+report_meant r m = report_at r (meant r.sched m)
 
 -- where lines are still counted there are not too many
 abbrev pub Few : Stage → ℕ → Type 0
@@ -44,22 +43,22 @@ Few StageCases.Ended n = Unit {0}
 Few StageCases.Over n = Unit {0}
 
 -- a state that calls may count on, from `cores=` on
-abbrev pub Held : Stage → Sched → List ThreadInfo → (queue prios log lanes : List ℕ) → Type 0
-Held StageCases.Heads s ts qs ps ls ws = Unit {0}
-Held StageCases.Calls s ts qs ps ls ws = Valid s (memory ts qs ps ls ws)
-Held StageCases.Ended s ts qs ps ls ws = Valid s (memory ts qs ps ls ws)
-Held StageCases.Over s ts qs ps ls ws = Unit {0}
+abbrev pub Held : Stage → Sched → Memory → Type 0
+Held StageCases.Heads s m = Unit {0}
+Held StageCases.Calls s m = Valid s m
+Held StageCases.Ended s m = Valid s m
+Held StageCases.Over s m = Unit {0}
 
 -- 01: "T 256, E 512, S 256": the memory is long enough for a scheduler of eight cores
-pub record Roomy (ts : List ThreadInfo) (qs ps ls ws : List ℕ) : Type 0 where
-  pub threads : 256 ≤ length ts
-  pub queue : 256 ≤ length qs
-  pub prios : 256 ≤ length ps
-  pub log : 1_024 ≤ length ls
-  pub lanes : 4_176 ≤ length ws
+pub record Roomy (m : Memory) : Type 0 where
+  pub threads : 256 ≤ length m.threads
+  pub queue : 256 ≤ length m.queue
+  pub prios : 256 ≤ length m.prios
+  pub log : 1_024 ≤ length m.log
+  pub lanes : 4_176 ≤ length m.lanes
 
 -- what a report has before and after each line
-pub record ReportValid (r : Report) (ts : List ThreadInfo) (qs ps ls ws : List ℕ) : Type 0 where
-  pub kept : Kept (report_meant r ts qs ls ws).lines (report_meant r ts qs ls ws).stage
-  pub memory : Roomy ts qs ps ls ws
-  pub held : Held r.stage r.sched ts qs ps ls ws
+pub record ReportValid (r : Report) (m : Memory) : Type 0 where
+  pub kept : Kept (report_meant r m).lines (report_meant r m).stage
+  pub memory : Roomy m
+  pub held : Held r.stage r.sched m

@@ -1,7 +1,7 @@
 // What is put into the lent buffer: what a line prints, and what stands at the end.
-ghost use Rattle.std.specs.Prelude.{◌≡◌, List, ℕ};
-ghost use Rattle.text.specs.Buffers.{Put};
-ghost use Rattle.model.specs.declared.ThreadInfo.{ThreadInfo};
+ghost use Rattle.std.specs.Prelude.{◌≡◌, ◌≤◌};
+ghost use Rattle.text.specs.Buffers.{Put, HasRoom, Wrote};
+ghost use Rattle.state.specs.Memory.{Memory};
 ghost use Rattle.script.specs.Report.{finish};
 ghost use Rattle.feed_plan.specs.Meant.{report_meant};
 ghost use Rattle.feed_plan.specs.Steps.{next_text, records_in};
@@ -13,19 +13,30 @@ use output::sums::put_summary_of;
 use record_reads::totals::Totals;
 use sched::Outcome;
 use settings::Refusal;
+use text::put::Writer;
 
 // The text alone.
+fn put_line(w: &mut Writer, next: Next)
+    requires { (next.switches.count ≤ 8) × HasRoom w.old (next_text next) }
+    ensures { Wrote w.old (next_text next) w.new }
+{
+    match next.outcome {
+        Err(k) => put_refused(w, next.line, k),
+        Ok(Outcome::Joined(joined)) => put_joined(w, next.line, joined),
+        Ok(Outcome::Switched) => put_switches(w, next.report.sched.now, next.switches),
+        Ok(Outcome::Taken) => {}
+        Ok(Outcome::Spawned(_)) => {}
+    }
+}
+
+// The same at the front of the buffer; answers where it ends.
 pub fn put_text(next: Next, out: &mut [u8]) -> usize
     requires { Sayable next out.old }
     ensures { Put out.old 0 (next_text next) out.new result }
 {
-    match next.outcome {
-        Err(k) => put_refused(out, 0, next.line, k),
-        Ok(Outcome::Joined(joined)) => put_joined(out, 0, next.line, joined),
-        Ok(Outcome::Switched) => put_switches(out, 0, next.report.sched.now, next.switches),
-        Ok(Outcome::Taken) => 0,
-        Ok(Outcome::Spawned(_)) => 0,
-    }
+    let mut w = Writer { out, at: 0 };
+    put_line(&mut w, next);
+    w.at
 }
 
 // What a line prints, at the front of the buffer.
@@ -49,14 +60,24 @@ pub fn record_count(r: Report) -> usize
     }
 }
 
-// What stands at the end of a script: the summary, or that `cores=` is missing. "a missing line counts as the line after the last"
-pub fn put_end(r: Report, totals: Totals, out: &mut [u8]) -> usize
-    requires { EndAsked r totals out.old }
-    ensures { (ts : List ThreadInfo) (qs ps ls ws : List ℕ) → EndFits r totals ts qs ps ls ws → Put out.old 0 (finish (report_meant r ts qs ls ws)) out.new result }
+// The summary, or that `cores=` is missing. "a missing line counts as the line after the last"
+fn put_finish(w: &mut Writer, r: Report, totals: Totals)
+    requires { (w.old.at ≡ 0) × EndAsked r totals w.old.out.now }
+    ensures { (m : Memory) → EndFits r totals m → Wrote w.old (finish (report_meant r m)) w.new }
 {
     match r.stage {
-        Stage::Heads => put_refused(out, 0, r.lines + 1, Refusal::BadLine),
-        Stage::Calls | Stage::Ended => put_summary_of(out, 0, r.sched, totals),
-        Stage::Over => 0,
+        Stage::Heads => put_refused(w, r.lines + 1, Refusal::BadLine),
+        Stage::Calls | Stage::Ended => put_summary_of(w, r.sched, totals),
+        Stage::Over => {}
     }
+}
+
+// What stands at the end of a script, at the front of the buffer; answers where it ends.
+pub fn put_end(r: Report, totals: Totals, out: &mut [u8]) -> usize
+    requires { EndAsked r totals out.old }
+    ensures { (m : Memory) → EndFits r totals m → Put out.old 0 (finish (report_meant r m)) out.new result }
+{
+    let mut w = Writer { out, at: 0 };
+    put_finish(&mut w, r, totals);
+    w.at
 }

@@ -8,6 +8,7 @@ use rcfg::Head;
 use rings::RingPos;
 use settings::SchedConfig;
 use state::{Sched, others_idle, words_of};
+use turns::Marks;
 
 // A state that no call has seen: up to `cores=` it stands for nothing.
 fn no_sched() -> Sched {
@@ -27,10 +28,12 @@ fn no_sched() -> Sched {
         context_switches: 0,
         closed: false,
         states: others_idle(words_of(CoreState::Idle)),
-        exits: [false; 8],
-        blocks: [false; 8],
-        yields: [false; 8],
-        progressed: [false; 8],
+        marks: Marks {
+            exits: [false; 8],
+            blocks: [false; 8],
+            yields: [false; 8],
+            progressed: [false; 8],
+        },
         ticks: [none; 8],
         log: empty,
         lanes: [empty; 8],

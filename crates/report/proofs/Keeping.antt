@@ -9,7 +9,6 @@ use borrow.Author.Tests.{leb-false}
 use lib.Dec.{leb}
 use lib.ListN.{length, take, drop, length-append}
 use lib.Seq.{take-length, take-paste, drop-paste, drop-drop}
-use Rattle.model.specs.declared.ThreadInfo.{ThreadInfo}
 use Rattle.text.specs.Lines.{cut}
 use Rattle.text.specs.Buffers.{Put}
 use Rattle.script.specs.Report as Definition
@@ -27,7 +26,7 @@ use Rattle.feed_plan.specs.Feeding.{Starts, LineDone}
 use Rattle.report_io.specs.declared.Upcoming.{Upcoming}
 use Rattle.report_io.specs.Marks.{retired_lines, no_marks, marked_by, marked_report}
 use Rattle.report_io.specs.Blocks.{last_turn, beginning, first_of, turn_ahead, NextLine, pending_text, held_back, takes_lines, Passed}
-use Rattle.sched.proofs.Memory.{Lists}
+use Rattle.state.specs.Memory.{Memory}
 use Rattle.report.specs.Running.{SoFar, Runnable, Finished}
 use Rattle.report.proofs.Marking.{lines_cut, counting-twice, Behind, behind}
 use Rattle.report.proofs.Pieces.{first_alone, takes, takes-meant, first_ended}
@@ -80,9 +79,9 @@ out_one : (d : Definition.Report) (l : List ℕ) → (feeds d (l ∷ [])).out �
 unfolding feeds
 out_one d l = append-nil (feed d l).out
 
-module _ (r : Report) (u : Upcoming) (m : Lists) (bs : List ℕ) (s : SoFar r u m.ts bs m.qs m.ls m.ws) (less : u.place.turn < last_turn) (ahead : List ℕ) (some : 0 < length ahead) (c : Result Line Refusal)
-    (says : feed (report_meant r m.ts m.qs m.ls m.ws) (first_of (cut ahead)) ≡ fed_of (report_meant r m.ts m.qs m.ls m.ws) c)
-    (x : Next) (z : Lists) (done : LineDone r c m.ts z.ts m.qs z.qs m.ps z.ps m.ls z.ls m.ws z.ws x) (valid : ReportValid x.report z.ts z.qs z.ps z.ls z.ws) where
+module _ (r : Report) (u : Upcoming) (m : Memory) (bs : List ℕ) (s : SoFar r u m bs) (less : u.place.turn < last_turn) (ahead : List ℕ) (some : 0 < length ahead) (c : Result Line Refusal)
+    (says : feed (report_meant r m) (first_of (cut ahead)) ≡ fed_of (report_meant r m) c)
+    (x : Next) (z : Memory) (done : LineDone r c m z x) (valid : ReportValid x.report z) where
   abbrev piece : List ℕ
   piece = first_of (cut ahead)
 
@@ -95,13 +94,13 @@ module _ (r : Report) (u : Upcoming) (m : Lists) (bs : List ℕ) (s : SoFar r u 
   lines_are : cut taken ≡ cut s.script ++ (piece ∷ [])
   lines_are = s.ended less piece ∙ ap (λ (ls : List (List ℕ)). cut s.script ++ ls) (first_alone ahead some)
 
-  fed-is : feed (counting d) piece ≡ fed_of (report_meant r m.ts m.qs m.ls m.ws) c
+  fed-is : feed (counting d) piece ≡ fed_of (report_meant r m) c
   fed-is = ap (λ (y : Definition.Report). feed y piece) (sym s.report) ∙ says
 
-  report-is : report_meant x.report z.ts z.qs z.ls z.ws ≡ counting (feed (counting d) piece).report
+  report-is : report_meant x.report z ≡ counting (feed (counting d) piece).report
   report-is = done.report ∙ ap (λ (f : Definition.Fed). counting f.report) (sym fed-is)
 
-  report-next : report_meant x.report z.ts z.qs z.ls z.ws ≡ counting (feeds start (cut taken)).report
+  report-next : report_meant x.report z ≡ counting (feeds start (cut taken)).report
   report-next =
       report-is ∙
       counting-feed d.lines d.stage piece ∙
@@ -147,8 +146,8 @@ module _ (r : Report) (u : Upcoming) (m : Lists) (bs : List ℕ) (s : SoFar r u 
     script' = taken ++ more-lines
 
     -- what stands behind the lines
-    abbrev behind-all : Behind z.ts z.qs z.ps z.ls z.ws x.report p.lines v.marked
-    behind-all = behind z.ts z.qs z.ps z.ls z.ws x.report valid p.lines v.marked p.marked
+    abbrev behind-all : Behind z x.report p.lines v.marked
+    behind-all = behind z x.report valid p.lines v.marked p.marked
 
     takes-calls : (g : Stage) → g ≡ StageCases.Calls → takes_lines g ≡ true
     unfolding takes_lines
@@ -163,7 +162,7 @@ module _ (r : Report) (u : Upcoming) (m : Lists) (bs : List ℕ) (s : SoFar r u 
             ap (λ (l : List ℕ). cut (taken ++ retired_lines l)) e ∙ ap cut (append-nil taken) ∙ sym (append-nil (cut taken)) ∙ sym (ap (λ (l : List ℕ). cut taken ++ cut (retired_lines l)) e)
         go (y ∷ cs) e = still-ended (takes-calls x.report.stage (p.marked.calls (let n : length p.lines ≡ suc (length cs) = ap length e in omega arith)).0) (retired_lines p.lines)
 
-    report-marked : report_meant (marked_report x.report v.marked) z.ts z.qs z.ls z.ws ≡ counting (feeds start (cut script')).report
+    report-marked : report_meant (marked_report x.report v.marked) z ≡ counting (feeds start (cut script')).report
     report-marked =
         behind-all.report ∙
         ap (λ (y : Definition.Report). counting (feeds y (cut more-lines)).report) report-next ∙
@@ -185,14 +184,14 @@ module _ (r : Report) (u : Upcoming) (m : Lists) (bs : List ℕ) (s : SoFar r u 
         ap (λ (ls : List (List ℕ)). cut taken ++ ls) (lines_cut x.report.sched.cores p.lines l p.marked.each) ∙
         sym (ap (λ (ls : List (List ℕ)). ls ++ cut l) pieces ∙ append_assoc (cut taken) (cut more-lines) (cut l))
 
-    pub kept : SoFar (marked_report x.report v.marked) v z.ts bs' z.qs z.ls z.ws
+    pub kept : SoFar (marked_report x.report v.marked) v z bs'
     unfolding held_back
     kept = go (leb (length t) 65_248) refl p.text
       where
         t : List ℕ
         t = pending_text u.place bs ++ next_text x
 
-        go : (b : Bool) → leb (length t) 65_248 ≡ b → pending_text v.place bs' ≡ cond b t [] → SoFar (marked_report x.report v.marked) v z.ts bs' z.qs z.ls z.ws
+        go : (b : Bool) → leb (length t) 65_248 ≡ b → pending_text v.place bs' ≡ cond b t [] → SoFar (marked_report x.report v.marked) v z bs'
         go true e f = record { script = script'; report = report-marked; sent = s.sent; text = ap (λ (y : List ℕ). s.sent ++ y) f ∙ all-text ∙ out-marked; much = s.much; ended = ended-marked }
         go false e f = record {
           script = script';
@@ -203,18 +202,18 @@ module _ (r : Report) (u : Upcoming) (m : Lists) (bs : List ℕ) (s : SoFar r u 
           ended = ended-marked;
         }
 
-    pub marked-valid : ReportValid (marked_report x.report v.marked) z.ts z.qs z.ps z.ls z.ws
+    pub marked-valid : ReportValid (marked_report x.report v.marked) z
     marked-valid = behind-all.valid
 
 ---- before the first line, and at the end
 
-pub none_yet_lem : (r : Report) (u : Upcoming) (ts : List ThreadInfo) (b bs qs ls ws : List ℕ) → Starts r → NextLine r beginning (marked_by r (no_marks r)) b bs u → SoFar r u ts bs qs ls ws
+pub none_yet_lem : (r : Report) (u : Upcoming) (m : Memory) (b bs : List ℕ) → Starts r → NextLine r beginning (marked_by r (no_marks r)) b bs u → SoFar r u m bs
 unfolding feeds cut
-none_yet_lem r u ts b bs qs ls ws s n = record { script = []; report = s.report ts qs ls ws; sent = []; text = ap (λ (i : ℕ). take i (drop 65_536 bs)) n.pending; much = λ h. absurd (omega arith); ended = λ h l. refl }
+none_yet_lem r u m b bs s n = record { script = []; report = s.report m; sent = []; text = ap (λ (i : ℕ). take i (drop 65_536 bs)) n.pending; much = λ h. absurd (omega arith); ended = λ h l. refl }
 
-module _ (r : Report) (u : Upcoming) (m : Lists) (bs : List ℕ) (runs : Runnable r u m.ts bs m.qs m.ps m.ls m.ws) (n : ℕ) (bs' : List ℕ) where
+module _ (r : Report) (u : Upcoming) (m : Memory) (bs : List ℕ) (runs : Runnable r u m bs) (n : ℕ) (bs' : List ℕ) where
   abbrev t : List ℕ
-  t = finish (report_meant r m.ts m.qs m.ls m.ws)
+  t = finish (report_meant r m)
 
   abbrev last : Definition.Report
   last = (feeds start (cut runs.so_far.script)).report
@@ -248,11 +247,10 @@ module _ (r : Report) (u : Upcoming) (m : Lists) (bs : List ℕ) (runs : Runnabl
     end_is : t ≡ finish last
     end_is = ap finish runs.so_far.report ∙ counting-finish last.lines last.stage
 
-    pub finished : Finished bs' m.qs m.ps m.ls m.ws
+    pub finished : Finished bs' m
     unfolding whole Definition.report
     finished = record {
       report = r;
-      threads = m.ts;
       valid = runs.valid;
       script = runs.so_far.script;
       made = runs.so_far.report;

@@ -1,5 +1,4 @@
 -- A turn of the report program, without its memory: the next line may be taken, what it prints fits, and what is known before the next turn.
-use Rattle.std.specs.Prelude.{Result}
 use mathlib.Core.Path.{◌≡◌, refl, sym, subst}
 use Prim.Native.Nat.{ℕ, ◌+◌, ◌<◌, ◌≤◌}
 use native.Mathlib.Omega.{arith}
@@ -9,12 +8,11 @@ use lib.Seq.{paste}
 use Rattle.model.specs.declared.ThreadInfo.{ThreadInfo}
 use Rattle.text.specs.Buffers.{Put}
 use Rattle.text.specs.Lines.{cut}
-use Rattle.state.specs.State.{meant_at}
+use Rattle.state.specs.Memory.{Memory, memory}
+use Rattle.state.specs.State.{meant}
 use Rattle.script.specs.Report as Definition
 use Rattle.script.proofs.Room.{finish-well}
 use Rattle.feed_plan.specs.declared.Report.{Report}
-use Rattle.settings.specs.declared.Refusal.{Refusal}
-use Rattle.feed_plan.specs.declared.Line.{Line}
 use Rattle.feed_plan.specs.declared.Next.{Next}
 use Rattle.feed_plan.specs.declared.Fed.{Fed}
 use Rattle.feed_plan.specs.Meant as Meant
@@ -22,27 +20,16 @@ use Rattle.feed_plan.specs.Meant.{report_meant, ReportValid}
 use Rattle.feed_plan.specs.Steps.{fed_of, next_text}
 use Rattle.feed_plan.specs.Feeding.{Starts, LineRead, LineAsked, LineDone, Sayable}
 use Rattle.feed_plan.proofs.Feeding.{lines-few, line-asked, sayable, feed-done}
-use Rattle.feed.proofs.Results.{roomy-kept}
 use Rattle.report_io.specs.declared.Upcoming.{Upcoming}
 use Rattle.report_io.specs.Marks.{marked_report}
 use Rattle.report_io.specs.Blocks.{Roomy, last_turn, first_of, Standing, Awaits, Printable, Passed}
-use Rattle.sched.proofs.Memory.{Lists, Long}
 use Rattle.report.specs.Running.{SoFar, Runnable}
 use Rattle.report.proofs.Keeping.{kept, marked-valid}
 
 abbrev limit : ℕ
 limit = last_turn
 
-abbrev ValidIn : Report → Lists → Type 0
-ValidIn r m = ReportValid r m.ts m.qs m.ps m.ls m.ws
-
-abbrev RunsIn : Report → Upcoming → Lists → List ℕ → Type 0
-RunsIn r u m bs = Runnable r u m.ts bs m.qs m.ps m.ls m.ws
-
-abbrev DoneIn : Report → Result Line Refusal → Lists → Lists → Next → Type 0
-DoneIn r c m z x = LineDone r c m.ts z.ts m.qs z.qs m.ps z.ps m.ls z.ls m.ws z.ws x
-
-module _ (r : Report) (u : Upcoming) (m : Lists) (bs : List ℕ) (less : u.place.turn < limit) (runs : RunsIn r u m bs) where
+module _ (r : Report) (u : Upcoming) (m : Memory) (bs : List ℕ) (less : u.place.turn < limit) (runs : Runnable r u m bs) where
   standing : Standing r runs.awaits.ahead bs u
   standing = runs.awaits.line less
 
@@ -53,27 +40,24 @@ module _ (r : Report) (u : Upcoming) (m : Lists) (bs : List ℕ) (less : u.place
   reads = subst (λ (l : List ℕ). LineRead r (first_of (cut l)) u.line) (append-nil runs.awaits.ahead) (standing.reads [] (λ h. refl))
 
   -- the line may be taken
-  pub asked : LineAsked r u.line m.ts m.qs m.ps m.ls m.ws
-  asked = line-asked r piece m.ts m.qs m.ps m.ls m.ws runs.valid u.line reads.fits
+  pub asked : LineAsked r u.line m
+  asked = line-asked r piece m runs.valid u.line reads.fits
 
-  module _ (x : Next) (z : Lists) (claim : DoneIn r u.line m z x) (long : Long m z) where
-    says-it : Definition.feed (report_meant r m.ts m.qs m.ls m.ws) piece ≡ fed_of (report_meant r m.ts m.qs m.ls m.ws) u.line
+  module _ (x : Next) (z : Memory) (claim : LineDone r u.line m z x) (roomy : Meant.Roomy z) where
+    says-it : Definition.feed (report_meant r m) piece ≡ fed_of (report_meant r m) u.line
     unfolding report_meant
-    says-it = reads.says (meant_at r.sched m.ts m.qs m.ls m.ws)
+    says-it = reads.says (meant r.sched m)
 
     fits_in : Sayable x (replicate 288 0)
-    fits_in = sayable r piece m.ts m.qs m.ps m.ls m.ws runs.valid u.line z.ts z.qs z.ps z.ls z.ws x says-it claim (replicate 288 0) (subst (λ (k : ℕ). 288 ≤ k) (sym (length-replicate {A = ℕ} 288 0)) (omega arith))
-
-    memory : Meant.Roomy z.ts z.qs z.ps z.ls z.ws
-    memory = roomy-kept m.ts z.ts m.qs z.qs m.ps z.ps m.ls z.ls m.ws z.ws (record { threads = long.threads; queue = long.queue; prios = long.prios; log = long.log; lanes = long.lanes }) runs.valid.memory
+    fits_in = sayable r piece m runs.valid u.line z x says-it claim (replicate 288 0) (subst (λ (k : ℕ). 288 ≤ k) (sym (length-replicate {A = ℕ} 288 0)) (omega arith))
 
     abbrev said : Fed
     said = record { report = x.report; written = 0 + length (next_text x) }
 
     -- the report after it
-    valid-next : ValidIn x.report z
+    valid-next : ReportValid x.report z
     valid-next =
-        (feed-done r piece m.ts m.qs m.ps m.ls m.ws runs.valid u.line z.ts z.qs z.ps z.ls z.ws x says-it claim [] (paste [] 0 (next_text x) (length (next_text x))) said memory
+        (feed-done r piece m runs.valid u.line z x says-it claim [] (paste [] 0 (next_text x) (length (next_text x))) said roomy
         (record { report = refl; text = record { bytes = refl; end = refl } })).valid
 
     -- what it prints fits
@@ -81,28 +65,28 @@ module _ (r : Report) (u : Upcoming) (m : Lists) (bs : List ℕ) (less : u.place
     printable = (
       runs.awaits.roomy,
       less,
-      record { number = fits_in.number; listed = fits_in.listed; short = subst (λ (k : ℕ). length (next_text x) ≤ k) (length-replicate {A = ℕ} 288 0) fits_in.long; few = lines-few x.report [] z.ts z.qs z.ps z.ls z.ws valid-next },
+      record { number = fits_in.number; listed = fits_in.listed; short = subst (λ (k : ℕ). length (next_text x) ≤ k) (length-replicate {A = ℕ} 288 0) fits_in.long; few = lines-few x.report [] z valid-next },
       runs.room,
     )
 
     -- and what is known before the next turn
-    pub goes_on : (v : Upcoming) (bs' : List ℕ) (r' : Report) → Passed u x bs bs' v → length bs' ≡ length bs → r' ≡ marked_report x.report v.marked → RunsIn r' v z bs'
+    pub goes_on : (v : Upcoming) (bs' : List ℕ) (r' : Report) → Passed u x bs bs' v → length bs' ≡ length bs → r' ≡ marked_report x.report v.marked → Runnable r' v z bs'
     goes_on v bs' r' p long' e' = record {
-      valid = subst (λ (y : Report). ValidIn y z) (sym e') (marked-valid r u m bs runs.so_far less runs.awaits.ahead standing.some u.line says-it x z claim valid-next v bs' p);
+      valid = subst (λ (y : Report). ReportValid y z) (sym e') (marked-valid r u m bs runs.so_far less runs.awaits.ahead standing.some u.line says-it x z claim valid-next v bs' p);
       awaits = subst (λ (y : Report). Awaits y bs' v) (sym e') p.awaits;
       room = subst (λ (k : ℕ). 131_072 ≤ k) (sym long') runs.room;
-      so_far = subst (λ (y : Report). SoFar y v z.ts bs' z.qs z.ls z.ws) (sym e') (kept r u m bs runs.so_far less runs.awaits.ahead standing.some u.line says-it x z claim valid-next v bs' p);
+      so_far = subst (λ (y : Report). SoFar y v z bs') (sym e') (kept r u m bs runs.so_far less runs.awaits.ahead standing.some u.line says-it x z claim valid-next v bs' p);
     }
 
 -- what stands at the end is short
-pub count_fits : (r : Report) (m : Lists) (bs : List ℕ) (n : ℕ) (bs' : List ℕ) → ValidIn r m → Put bs 0 (Definition.finish (report_meant r m.ts m.qs m.ls m.ws)) bs' n → n ≤ 400
+pub count_fits : (r : Report) (m : Memory) (bs : List ℕ) (n : ℕ) (bs' : List ℕ) → ReportValid r m → Put bs 0 (Definition.finish (report_meant r m)) bs' n → n ≤ 400
 count_fits r m bs n bs' v p =
-    let w : length (Definition.finish (report_meant r m.ts m.qs m.ls m.ws)) ≤ 400 = finish-well (report_meant r m.ts m.qs m.ls m.ws) v.kept in
-    let e : n ≡ 0 + length (Definition.finish (report_meant r m.ts m.qs m.ls m.ws)) = p.end in
+    let w : length (Definition.finish (report_meant r m)) ≤ 400 = finish-well (report_meant r m) v.kept in
+    let e : n ≡ 0 + length (Definition.finish (report_meant r m)) = p.end in
     omega (arith, w, e)
 
 -- before the first line
-pub sized : (t : ThreadInfo) → Meant.Roomy (replicate 256 t) (replicate 256 0) (replicate 256 0) (replicate 1_024 0) (replicate 4_176 0)
+pub sized : (t : ThreadInfo) → Meant.Roomy (memory (replicate 256 t) (replicate 256 0) (replicate 256 0) (replicate 1_024 0) (replicate 4_176 0))
 sized t =
     record {
       threads = omega (arith, length-replicate 256 t);
@@ -112,5 +96,5 @@ sized t =
       lanes = omega (arith, length-replicate {A = ℕ} 4_176 0);
     }
 
-pub first-few : (r : Report) (ts : List ThreadInfo) (qs ps ls ws : List ℕ) → Starts r → Meant.Roomy ts qs ps ls ws → Meant.Few r.stage r.lines
-first-few r ts qs ps ls ws s m = lines-few r [] ts qs ps ls ws (s.valid ts qs ps ls ws m)
+pub first-few : (r : Report) (m : Memory) → Starts r → Meant.Roomy m → Meant.Few r.stage r.lines
+first-few r m s roomy = lines-few r [] m (s.valid m roomy)

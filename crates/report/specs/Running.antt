@@ -1,6 +1,6 @@
 -- What the report program has before each line, and at its end.
 use Rattle.std.specs.Prelude.{ℕ, ◌≤◌, ◌<◌, ◌≡◌, List, ◌++◌, length, take, drop}
-use Rattle.model.specs.declared.ThreadInfo.{ThreadInfo}
+use Rattle.state.specs.Memory.{Memory}
 use Rattle.text.specs.Lines.{cut}
 use Rattle.script.specs.Report as Definition
 use Rattle.script.specs.Report.{start, feeds}
@@ -11,28 +11,27 @@ use Rattle.report_io.specs.Blocks.{last_turn, Awaits, pending_text}
 
 -- How far the program is: what it took of the script, and what it handed to standard output. Report and text are the definition's for that; nothing is handed over before
 -- more than 65,248 bytes are pending. Where a line follows, the lines taken are ended.
-pub record SoFar (r : Report) (u : Upcoming) (ts : List ThreadInfo) (bs qs ls ws : List ℕ) : Type 0 where
+pub record SoFar (r : Report) (u : Upcoming) (m : Memory) (bs : List ℕ) : Type 0 where
   pub script : List ℕ
-  pub report : report_meant r ts qs ls ws ≡ counting (feeds start (cut script)).report
+  pub report : report_meant r m ≡ counting (feeds start (cut script)).report
   pub sent : List ℕ
   pub text : sent ++ pending_text u.place bs ≡ (feeds start (cut script)).out
   pub much : 0 < length sent → 65_248 < length sent
   pub ended : u.place.turn < last_turn → (l : List ℕ) → cut (script ++ l) ≡ cut script ++ cut l
 
-pub record Runnable (r : Report) (u : Upcoming) (ts : List ThreadInfo) (bs qs ps ls ws : List ℕ) : Type 0 where
-  pub valid : ReportValid r ts qs ps ls ws
+pub record Runnable (r : Report) (u : Upcoming) (m : Memory) (bs : List ℕ) : Type 0 where
+  pub valid : ReportValid r m
   pub awaits : Awaits r bs u
   pub room : 131_072 ≤ length bs
-  pub so_far : SoFar r u ts bs qs ls ws
+  pub so_far : SoFar r u m bs
 
--- At the end the memory is that of a report, with some thread records: the definition's for what was taken of the script. What was handed over before, what was pending then
+-- At the end the memory is that of a report, the definition's for what was taken of the script. What was handed over before, what was pending then
 -- and the report's end are together what the definition prints for it.
-pub record Finished (bs qs ps ls ws : List ℕ) : Type 0 where
+pub record Finished (bs : List ℕ) (m : Memory) : Type 0 where
   pub report : Report
-  pub threads : List ThreadInfo
-  pub valid : ReportValid report threads qs ps ls ws
+  pub valid : ReportValid report m
   pub script : List ℕ
-  pub made : report_meant report threads qs ls ws ≡ counting (feeds start (cut script)).report
+  pub made : report_meant report m ≡ counting (feeds start (cut script)).report
   pub sent : List ℕ
   pub much : 0 < length sent → 65_248 < length sent
   pub pending : ℕ

@@ -7,6 +7,7 @@ ghost use Rattle.script_report.specs.Reporting.{report_in};
 
 use records::change::first_thread;
 use settings::Refusal;
+use state::memory::LentMemory;
 
 // The report on a whole script, which asks nothing: the arrays have room for T 256, E 512 and S 256.
 pub fn report(script: &[u8], out: &mut [u8]) -> Result<usize, Refusal>
@@ -17,13 +18,12 @@ pub fn report(script: &[u8], out: &mut [u8]) -> Result<usize, Refusal>
     let mut prios = [0u32; 256];
     let mut log = [0u64; 1024];
     let mut lanes = [0u64; 4176];
-    script_report::report(
-        script,
-        out,
-        &mut threads,
-        &mut queue,
-        &mut prios,
-        &mut log,
-        &mut lanes,
-    )
+    let mut m = LentMemory {
+        threads: &mut threads,
+        queue: &mut queue,
+        prios: &mut prios,
+        log: &mut log,
+        lanes: &mut lanes,
+    };
+    script_report::report(script, out, &mut m)
 }

@@ -74,7 +74,7 @@ module _ (r : Report) (p : Place) (b : List ℕ) (w : Within p) where
         progressed = ap (λ (x : Ahead). x.progressed) e;
       }
 
-  module _ (long : 131_072 ≤ length b) (t : TakesMarks r p) (a : Ahead) (m : MarksAhead (between p.at p.end b) r.sched.cores r.sched.progressed a) where
+  module _ (long : 131_072 ≤ length b) (t : TakesMarks r p) (a : Ahead) (m : MarksAhead (between p.at p.end b) r.sched.cores r.sched.marks.progressed a) where
     abbrev n : ℕ
     n = 10 * length m.lines
 

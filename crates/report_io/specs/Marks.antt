@@ -43,7 +43,7 @@ pub record MarksAhead (t : List ℕ) (cores : ℕ) (m : List Bool) (a : Ahead) :
 ---- what they change of a report
 
 abbrev pub no_marks : Report → Ahead
-no_marks r = record { progressed = r.sched.progressed; count = 0 }
+no_marks r = record { progressed = r.sched.marks.progressed; count = 0 }
 
 abbrev pub marked_by : Report → Ahead → Marked
 marked_by r a = record { lines = r.lines + a.count; progressed = a.progressed }
@@ -71,11 +71,11 @@ pub record LinesAhead (r : Report) (p : Place) (b : List ℕ) (a : Ahead) : Type
   pub within : p.at + 10 * length lines ≤ p.end
   pub stands : take (p.end - p.at) (drop p.at b) ≡ retired_lines lines ++ take (p.end - (p.at + 10 * length lines)) (drop (p.at + 10 * length lines) b)
   pub count : a.count ≡ length lines
-  pub progressed : a.progressed ≡ marks_after lines r.sched.progressed
+  pub progressed : a.progressed ≡ marks_after lines r.sched.marks.progressed
 
 -- what is known of the lines that were taken with a line
 pub record MarkedWith (r : Report) (lines : List ℕ) (m : Marked) : Type 0 where
   pub each : Each r.sched.cores lines
   pub calls : 0 < length lines → (r.stage ≡ StageCases.Calls) × (r.sched.closed ≡ false) × (m.lines ≤ 1_000_000_000_000)
   pub counted : m.lines ≡ r.lines + length lines
-  pub progressed : m.progressed ≡ marks_after lines r.sched.progressed
+  pub progressed : m.progressed ≡ marks_after lines r.sched.marks.progressed

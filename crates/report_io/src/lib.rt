@@ -59,13 +59,9 @@ pub struct Upcoming {
 pub fn marked_report(next: Next, u: Upcoming) -> Report
     ensures { result ≡ marked_report next.report u.marked }
 {
-    let progressed = u.marked.progressed;
-    Report {
-        lines: u.marked.lines,
-        sched: Sched {
-            progressed,
-            ..next.report.sched
-        },
-        ..next.report
-    }
+    let Marked { lines, progressed } = u.marked;
+    let mut report = next.report;
+    report.lines = lines;
+    report.sched.marks.progressed = progressed;
+    report
 }

@@ -65,7 +65,7 @@ fn takes_marks(r: Report, p: Place) -> bool
 fn no_marks(r: Report) -> Ahead
     ensures { result ≡ no_marks r }
 {
-    let progressed = r.sched.progressed;
+    let progressed = r.sched.marks.progressed;
     Ahead {
         progressed,
         count: 0,
@@ -80,17 +80,17 @@ pub fn lines_ahead(r: Report, p: Place, blocks: &[u8]) -> Ahead
     if !takes_marks(r, p) {
         return no_marks(r);
     }
-    marks_ahead(&blocks[p.at..p.end], r.sched.cores, r.sched.progressed)
+    marks_ahead(
+        &blocks[p.at..p.end],
+        r.sched.cores,
+        r.sched.marks.progressed,
+    )
 }
 
 pub fn unmarked(r: Report) -> Marked
     ensures { result ≡ marked_by r (no_marks r) }
 {
-    let progressed = r.sched.progressed;
-    Marked {
-        lines: r.lines,
-        progressed,
-    }
+    marked_by(r, no_marks(r))
 }
 
 // What the lines ahead change of the report.
@@ -98,9 +98,9 @@ pub fn marked_by(r: Report, a: Ahead) -> Marked
     requires { r.lines + a.count < 2 ^ 64 }
     ensures { result ≡ marked_by r a }
 {
-    let progressed = a.progressed;
+    let Ahead { progressed, count } = a;
     Marked {
-        lines: r.lines + a.count as u64,
+        lines: r.lines + count as u64,
         progressed,
     }
 }

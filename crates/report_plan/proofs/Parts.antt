@@ -13,7 +13,7 @@ use Rattle.text.specs.Lines.{cut}
 use Rattle.text.specs.Buffers.{Put}
 use Rattle.text.proofs.Pieces.{cut-nil}
 use Rattle.script.specs.Invariants.{Kept}
-use Rattle.model.specs.declared.ThreadInfo.{ThreadInfo}
+use Rattle.state.specs.Memory.{Memory}
 use Rattle.feed_plan.specs.declared.Stage.{Stage}
 use Rattle.feed_plan.specs.declared.Stage.TheVariants as StageCases
 use Rattle.feed_plan.specs.declared.Report.{Report}
@@ -92,24 +92,24 @@ module _ (x : Next) (b : List ℕ) (at : ℕ) (h : at ≤ length b) (k : Sayable
     pub progress-put : Put b at (next_text x) (put_mid at (length b - at) b c) (at + n)
     progress-put = put-part b at h (next_text x) c n (subst (λ (l : List ℕ). Put l 0 (next_text x) c n) (part-is b at h) p)
 
-pub end-room : (r : Report) (ts : List ThreadInfo) (qs ls ws b : List ℕ) → Kept (report_meant r ts qs ls ws).lines (report_meant r ts qs ls ws).stage → (Prints r.stage → 400 ≤ length b) → length (finish (report_meant r ts qs ls ws)) ≤ length b
-end-room r ts qs ls ws b k h = go r.stage refl
+pub end-room : (r : Report) (m : Memory) (b : List ℕ) → Kept (report_meant r m).lines (report_meant r m).stage → (Prints r.stage → 400 ≤ length b) → length (finish (report_meant r m)) ≤ length b
+end-room r m b k h = go r.stage refl
   where
-    go : (g : Stage) → r.stage ≡ g → length (finish (report_meant r ts qs ls ws)) ≤ length b
-    go StageCases.Heads e = omega (arith, finish-well (report_meant r ts qs ls ws) k, h (subst Prints (sym e) tt))
-    go StageCases.Calls e = omega (arith, finish-well (report_meant r ts qs ls ws) k, h (subst Prints (sym e) tt))
-    go StageCases.Ended e = omega (arith, finish-well (report_meant r ts qs ls ws) k, h (subst Prints (sym e) tt))
-    go StageCases.Over e = rw (sym (end-over r ts qs ls ws e)) (omega arith)
+    go : (g : Stage) → r.stage ≡ g → length (finish (report_meant r m)) ≤ length b
+    go StageCases.Heads e = omega (arith, finish-well (report_meant r m) k, h (subst Prints (sym e) tt))
+    go StageCases.Calls e = omega (arith, finish-well (report_meant r m) k, h (subst Prints (sym e) tt))
+    go StageCases.Ended e = omega (arith, finish-well (report_meant r m) k, h (subst Prints (sym e) tt))
+    go StageCases.Over e = rw (sym (end-over r m e)) (omega arith)
 
-module _ (r : Report) (m : Totals) (b : List ℕ) (at : ℕ) (h : at ≤ length b) (k : EndAsked r m (drop at b)) where
-  pub part-asked : EndAsked r m (mid_of at (length b - at) b)
-  part-asked = subst (λ (l : List ℕ). EndAsked r m l) (sym (part-is b at h)) k
+module _ (r : Report) (sums : Totals) (b : List ℕ) (at : ℕ) (h : at ≤ length b) (k : EndAsked r sums (drop at b)) where
+  pub part-asked : EndAsked r sums (mid_of at (length b - at) b)
+  part-asked = subst (λ (l : List ℕ). EndAsked r sums l) (sym (part-is b at h)) k
 
-  module _ (c : List ℕ) (n : ℕ) (p : (ts : List ThreadInfo) (qs ps ls ws : List ℕ) → EndFits r m ts qs ps ls ws → Put (mid_of at (length b - at) b) 0 (finish (report_meant r ts qs ls ws)) c n) where
+  module _ (c : List ℕ) (n : ℕ) (p : (m : Memory) → EndFits r sums m → Put (mid_of at (length b - at) b) 0 (finish (report_meant r m)) c n) where
     pub end_fits : at + n ≤ length b
     end_fits =
-        let q = p k.ts k.qs k.ps k.ls k.ws k.fits in
-        omega (arith, q.end, end-room r k.ts k.qs k.ls k.ws (drop at b) k.fits.valid.kept k.room, length-drop at b)
+        let q = p k.memory k.fits in
+        omega (arith, q.end, end-room r k.memory (drop at b) k.fits.valid.kept k.room, length-drop at b)
 
-    pub end-put : (ts : List ThreadInfo) (qs ps ls ws : List ℕ) → EndFits r m ts qs ps ls ws → Put b at (finish (report_meant r ts qs ls ws)) (put_mid at (length b - at) b c) (at + n)
-    end-put ts qs ps ls ws f = put-part b at h (finish (report_meant r ts qs ls ws)) c n (subst (λ (l : List ℕ). Put l 0 (finish (report_meant r ts qs ls ws)) c n) (part-is b at h) (p ts qs ps ls ws f))
+    pub end-put : (m : Memory) → EndFits r sums m → Put b at (finish (report_meant r m)) (put_mid at (length b - at) b c) (at + n)
+    end-put m f = put-part b at h (finish (report_meant r m)) c n (subst (λ (l : List ℕ). Put l 0 (finish (report_meant r m)) c n) (part-is b at h) (p m f))

@@ -2,7 +2,7 @@
 use Rattle.std.specs.Prelude.{ℕ, ◌-◌, ◌<◌, ◌≤◌, ◌≡◌, List, ◌∷◌, length, take, drop}
 use Rattle.text.specs.Lines.{cut}
 use Rattle.text.specs.Buffers.{Put}
-use Rattle.model.specs.declared.ThreadInfo.{ThreadInfo}
+use Rattle.state.specs.Memory.{Memory}
 use Rattle.record_reads.specs.declared.totals.Totals.{Totals}
 use Rattle.script.specs.Report as Definition
 use Rattle.feed_plan.specs.declared.Next.{Next}
@@ -15,8 +15,8 @@ use Rattle.report_plan.specs.declared.Reached.{Reached}
 pub record Begins (p : Progress) : Type 0 where
   pub from : p.from ≡ 0
   pub at : p.at ≡ 0
-  pub report : (ts : List ThreadInfo) (qs ls ws : List ℕ) → report_meant p.report ts qs ls ws ≡ Definition.start
-  pub valid : (ts : List ThreadInfo) (qs ps ls ws : List ℕ) → Roomy ts qs ps ls ws → ReportValid p.report ts qs ps ls ws
+  pub report : (m : Memory) → report_meant p.report m ≡ Definition.start
+  pub valid : (m : Memory) → Roomy m → ReportValid p.report m
 
 abbrev pub piece : Progress → Reached → List ℕ → List ℕ
 piece p q script = take (q.end - p.from) (drop p.from script)
@@ -33,4 +33,4 @@ pub record ProgressedAs (p : Progress) (q : Reached) (x : Next) (b b' : List ℕ
   pub text : Put b p.at (next_text x) b' y.at
 
 unfoldable pub EndedAs : Progress → Totals → (b b' : List ℕ) → ℕ → Type 0
-EndedAs p n b b' e = (ts : List ThreadInfo) (qs ps ls ws : List ℕ) → EndFits p.report n ts qs ps ls ws → Put b p.at (Definition.finish (report_meant p.report ts qs ls ws)) b' e
+EndedAs p n b b' e = (m : Memory) → EndFits p.report n m → Put b p.at (Definition.finish (report_meant p.report m)) b' e

@@ -2,9 +2,8 @@
 // Its public functions are parts for other crates: no host calls them.
 #![tactic(auto)]
 
-ghost use Rattle.std.specs.Prelude.{◌≡◌, List, ℕ, ◌+◌, ◌*◌, ◌-◌, ◌<◌, ◌≤◌, ltb, length, take, drop};
+ghost use Rattle.std.specs.Prelude.{◌≡◌, ◌+◌, ◌*◌, ◌-◌, ◌<◌, ◌≤◌, ltb, length, take, drop};
 ghost use Rattle.text.specs.Lines.{cut};
-ghost use Rattle.model.specs.declared.ThreadInfo.{ThreadInfo};
 ghost use Rattle.feed_plan.specs.Meant.{Few};
 ghost use Rattle.feed_plan.specs.Feeding.{Sayable, EndAsked};
 ghost use Rattle.report_plan.specs.Running.{Begins, ReachedAs, ProgressedAs, EndedAs};
