@@ -32,7 +32,23 @@ pub fn advance(r: Report, line: Result<Line, Refusal>, m: &mut LentMemory) -> Ne
         Ok(Line::Nothing) => quiet(r),
         Ok(Line::Head(head)) => headed(r, head),
         Ok(Line::Start { config, cores }) => {
-            of_created(r, new(config, cores, capacities(), 0, m))
+            let threads = &mut *m.threads;
+            let queue = &mut *m.queue;
+            let prios = &mut *m.prios;
+            let log = &mut *m.log;
+            let lanes = &mut *m.lanes;
+            let created = new(
+                config,
+                cores,
+                capacities(),
+                0,
+                threads,
+                queue,
+                prios,
+                log,
+                lanes,
+            );
+            of_created(r, created)
         }
         Ok(Line::Call(call)) => of_applied(r, apply(r.sched, call, m)),
     }

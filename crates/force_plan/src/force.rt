@@ -1,8 +1,9 @@
 // A forced switch: refused, or decided and written.
-ghost use Rattle.std.specs.Prelude.{◌≡◌, ℕ, ◌≤◌, length, unwrap_or};
+ghost use Rattle.std.specs.Prelude.{◌≡◌, List, ℕ, ◌≤◌, length, unwrap_or};
 ghost use Rattle.std.proofs.Math.Option.{Option};
+ghost use Rattle.model.specs.declared.ThreadInfo.{ThreadInfo};
 ghost use Rattle.model.specs.Reading.{option_tid_meant};
-ghost use Rattle.state.specs.Memory.{held, SameLoans};
+ghost use Rattle.state.specs.Memory.{held_words, SameWords};
 ghost use Rattle.state.specs.State.{Valid};
 ghost use Rattle.force_plan.specs.Plan.{AskedAt, ForceFits, ForcedOf, Forceable, ForcePending};
 
@@ -11,7 +12,7 @@ use decide::force::{force_core, place_asked};
 use model::{CoreId, Tid};
 use queue::moves::Moves;
 use queue::ready::ReadyQueue;
-use state::memory::LentMemory;
+use state::memory::LentWords;
 use state::{Sched, pack, unpack};
 use switches::no_switches;
 use tick_plan::tick::write;
@@ -54,17 +55,15 @@ fn plan(s: Sched, core: CoreId, at: usize, queue: &mut [u32], lanes: &mut [u64])
 }
 
 // A forced switch that is not refused.
-fn force_taken(s: Sched, core: CoreId, at: usize, m: &mut LentMemory) -> Decided
-    requires { (named : Option ℕ) × Forceable s core.0 named at (held m.old) }
-    ensures done { (named : Option ℕ) → Forceable s core.0 named at (held m.old)
-        → ForcePending core.0 named result.answer result.switches s result.sched result.moves (held m.old) (held m.new) }
-    ensures records { m.new.threads.now ≡ m.old.threads.now }
-    ensures prios { m.new.prios.now ≡ m.old.prios.now }
-    ensures lent { SameLoans m.old m.new }
+fn force_taken(s: Sched, core: CoreId, at: usize, w: &mut LentWords) -> Decided
+    requires { (named : Option ℕ) × ((ts : List ThreadInfo) × Forceable s core.0 named at (held_words ts w.old)) }
+    ensures done { (named : Option ℕ) (ts : List ThreadInfo) → Forceable s core.0 named at (held_words ts w.old)
+        → ForcePending core.0 named result.answer result.switches s result.sched result.moves (held_words ts w.old) (held_words ts w.new) }
+    ensures lent { SameWords w.old w.new }
 {
-    let queue = &mut *m.queue;
-    let log = &mut *m.log;
-    let lanes = &mut *m.lanes;
+    let queue = &mut *w.queue;
+    let log = &mut *w.log;
+    let lanes = &mut *w.lanes;
     let planned = plan(s, core, at, queue, lanes);
     // A forced switch takes no tick.
     let written = write(s, log, lanes, planned.moves, s.now);
@@ -77,16 +76,15 @@ fn force_taken(s: Sched, core: CoreId, at: usize, m: &mut LentMemory) -> Decided
 }
 
 // All of a forced switch but what it does to the thread records.
-pub fn force_decided(s: Sched, core: CoreId, named: Option<Tid>, m: &mut LentMemory) -> Decided
-    requires { Valid s (held m.old) }
-    ensures done { ForcePending core.0 (option_tid_meant named) result.answer result.switches s result.sched result.moves (held m.old) (held m.new) }
-    ensures records { m.new.threads.now ≡ m.old.threads.now }
-    ensures prios { m.new.prios.now ≡ m.old.prios.now }
-    ensures lent { SameLoans m.old m.new }
+pub fn force_decided(s: Sched, core: CoreId, named: Option<Tid>, w: &mut LentWords) -> Decided
+    requires { (ts : List ThreadInfo) × Valid s (held_words ts w.old) }
+    ensures done { (ts : List ThreadInfo) → Valid s (held_words ts w.old)
+        → ForcePending core.0 (option_tid_meant named) result.answer result.switches s result.sched result.moves
+        (held_words ts w.old) (held_words ts w.new) }
+    ensures lent { SameWords w.old w.new }
 {
-    let queue = &mut *m.queue;
-    let prios = &mut *m.prios;
-    let at = place(s, named, queue, prios);
+    let queue = &mut *w.queue;
+    let at = place(s, named, queue, w.prios);
     match check_force(s, core, named, at) {
         Err(refusal) => Decided {
             sched: s,
@@ -94,6 +92,6 @@ pub fn force_decided(s: Sched, core: CoreId, named: Option<Tid>, m: &mut LentMem
             switches: no_switches(),
             moves: 0,
         },
-        Ok(at) => force_taken(s, core, at, m),
+        Ok(at) => force_taken(s, core, at, w),
     }
 }

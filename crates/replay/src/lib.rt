@@ -75,7 +75,14 @@ pub fn replay(
     ensures done { ReplayDone config cores capacities entry_pc (map call_meant calls.now) upto (held m.old) (held m.new) result }
     ensures lent { SameLoans m.old m.new }
 {
-    let created = new(config, cores, capacities, entry_pc, m);
+    let threads = &mut *m.threads;
+    let queue = &mut *m.queue;
+    let prios = &mut *m.prios;
+    let log = &mut *m.log;
+    let lanes = &mut *m.lanes;
+    let created = new(
+        config, cores, capacities, entry_pc, threads, queue, prios, log, lanes,
+    );
     let n = calls_due(created, calls.len(), upto);
     let first = first_of(created);
     let last = apply_all(first, &calls[..n], m);

@@ -82,8 +82,10 @@ pub fn apply(s: Sched, call: Call, m: &mut LentMemory) -> Applied
             of_taken(set_priority(s, tid, number, threads, prios, log))
         }
         Call::SetTiming(quantum, switch_cost) => { of_taken(set_timing(s, quantum, switch_cost)) }
-        Call::ForceSwitch(core, named) => of_ticked(force_switch(s, core, named, m)),
-        Call::EndTick => of_ticked(end_tick(s, m)),
+        Call::ForceSwitch(core, named) => of_ticked(force_switch(
+            s, core, named, threads, queue, prios, log, lanes,
+        )),
+        Call::EndTick => of_ticked(end_tick(s, threads, queue, prios, log, lanes)),
         Call::Close(core) => {
             let t = s;
             of_taken(close(t, core, threads, queue, log, lanes))

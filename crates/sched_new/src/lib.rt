@@ -4,7 +4,7 @@
 
 ghost use Rattle.std.specs.Prelude.{◌≡◌, ◌≤◌, length};
 ghost use Rattle.walkkit.specs.Firsts.{firsts};
-ghost use Rattle.state.specs.Memory.{held, SameLoans};
+ghost use Rattle.state.specs.Memory.{memory};
 ghost use Rattle.new_plan.specs.Made.{same_at, NewDone};
 
 use model::ThreadInfo;
@@ -12,7 +12,6 @@ use new_plan::{Created, check_new, new_finished, taken_count};
 use records::change::first_thread;
 use settings::SchedConfig;
 use state::Capacities;
-use state::memory::LentMemory;
 
 // The first n records become t.
 pub fn set_first(threads: &mut [ThreadInfo], n: usize, t: ThreadInfo)
@@ -28,27 +27,27 @@ pub fn new(
     cores: u32,
     capacities: Capacities,
     entry_pc: u32,
-    m: &mut LentMemory,
+    threads: &mut [ThreadInfo],
+    queue: &[u32],
+    prios: &mut [u32],
+    log: &mut [u64],
+    lanes: &[u64],
 ) -> Created
-    ensures done { NewDone config cores capacities entry_pc (held m.old) (held m.new) result.sched result.answer }
-    ensures queue { m.new.queue.now ≡ m.old.queue.now }
-    ensures lanes { m.new.lanes.now ≡ m.old.lanes.now }
-    ensures lent { SameLoans m.old m.new }
+    ensures { NewDone config cores capacities entry_pc (memory threads.old queue.now prios.old log.old lanes.now)
+        (memory threads.new queue.now prios.new log.new lanes.now) result.sched result.answer }
 {
     let answer = check_new(
         config,
         cores,
         capacities,
-        m.threads.len(),
-        m.queue.len(),
-        m.prios.len(),
-        m.log.len(),
-        m.lanes.len(),
+        threads.len(),
+        queue.len(),
+        prios.len(),
+        log.len(),
+        lanes.len(),
     );
     let n = taken_count(answer);
     let t = first_thread(entry_pc);
-    set_first(m.threads, n, t);
-    let prios = &mut *m.prios;
-    let log = &mut *m.log;
+    set_first(threads, n, t);
     new_finished(config, cores, capacities, answer, prios, log)
 }

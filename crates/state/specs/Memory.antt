@@ -5,6 +5,7 @@ use Rattle.std.specs.Prelude.{ℕ, ◌≡◌, List}
 use Rattle.model.specs.declared.ThreadInfo.{ThreadInfo}
 use Rattle.text.specs.Buffers.{StillLent}
 use Rattle.state.specs.declared.memory.LentMemory.{LentMemory}
+use Rattle.state.specs.declared.memory.LentWords.{LentWords}
 
 pub record Memory : Type 0 where
   -- "The thread records are a lent slice of records, in thread order."
@@ -29,6 +30,17 @@ pub record SameLoans (old new : LentMemory) : Type 0 where
   pub threads : StillLent old.threads new.threads
   pub queue : StillLent old.queue new.queue
   pub prios : StillLent old.prios new.prios
+  pub log : StillLent old.log new.log
+  pub lanes : StillLent old.lanes new.lanes
+
+-- the records, and what the program's struct of the four slices of words holds
+abbrev pub held_words : List ThreadInfo → LentWords → Memory
+held_words ts w = memory ts w.queue.now w.prios.now w.log.now w.lanes.now
+
+-- still the same loans, and the same priorities
+pub record SameWords (old new : LentWords) : Type 0 where
+  pub queue : StillLent old.queue new.queue
+  pub prios : new.prios.now ≡ old.prios.now
   pub log : StillLent old.log new.log
   pub lanes : StillLent old.lanes new.lanes
 

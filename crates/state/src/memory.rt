@@ -10,3 +10,12 @@ pub struct LentMemory<'a> {
     pub log: &'a mut [u64],
     pub lanes: &'a mut [u64],
 }
+
+// The four slices of words, of which the priorities are only read: what a tick end and a forced switch take beside the thread records.
+#[derive(Drop)]
+pub struct LentWords<'a> {
+    pub queue: &'a mut [u32],
+    pub prios: &'a [u32],
+    pub log: &'a mut [u64],
+    pub lanes: &'a mut [u64],
+}

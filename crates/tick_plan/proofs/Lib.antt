@@ -5,3 +5,4 @@ pub mod Parts
 pub mod OneCore
 pub mod OnePlan
 pub mod Quiet
+pub mod Lending

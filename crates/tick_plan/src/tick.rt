@@ -9,7 +9,7 @@ ghost use Rattle.queue.specs.Ready.{waiting};
 ghost use Rattle.queue.specs.Words.{moves_in, made, Appended, NoLonger, StillLent};
 ghost use Rattle.turns.specs.Turns.{rules_meant, Short};
 ghost use Rattle.phases.specs.Cores.{board, pass_of};
-ghost use Rattle.state.specs.Memory.{memory, held, SameLoans};
+ghost use Rattle.state.specs.Memory.{memory, held_words, SameWords};
 ghost use Rattle.state.specs.State.{firsts, packed, states_of, move_room, no_ticks, no_pos, lane_start, lane_words, log_words, Valid};
 ghost use Rattle.rings.specs.Ring.{RingOK};
 ghost use Rattle.quiet.specs.Quiet.{is_quiet, Roomy};
@@ -31,7 +31,7 @@ use queue::moves::Moves;
 use queue::ready::ReadyQueue;
 use quiet::{is_quiet, sliced_states};
 use rings::RingPos;
-use state::memory::LentMemory;
+use state::memory::LentWords;
 use state::{Eight, Sched, pack, state_in, unpack, words_of};
 use switches::{no_switches, switch_list};
 use turns::{Marks, Rules};
@@ -253,22 +253,20 @@ fn tick_quiet(s: Sched, charged: Charged, lanes: &[u64]) -> Decided
 }
 
 // A tick end that is not refused.
-fn tick_taken(s: Sched, m: &mut LentMemory) -> Decided
-    requires { (tick_refusal s ≡ none) × Valid s (held m.old) }
-    ensures done { TickPending result.answer result.switches s result.sched result.moves (held m.old) (held m.new) }
-    ensures records { m.new.threads.now ≡ m.old.threads.now }
-    ensures prios { m.new.prios.now ≡ m.old.prios.now }
-    ensures lent { SameLoans m.old m.new }
+fn tick_taken(s: Sched, w: &mut LentWords) -> Decided
+    requires { (tick_refusal s ≡ none) × ((ts : List ThreadInfo) × Valid s (held_words ts w.old)) }
+    ensures done { (ts : List ThreadInfo) → Valid s (held_words ts w.old)
+        → TickPending result.answer result.switches s result.sched result.moves (held_words ts w.old) (held_words ts w.new) }
+    ensures lent { SameWords w.old w.new }
 {
-    let queue = &mut *m.queue;
-    let prios = &mut *m.prios;
-    let log = &mut *m.log;
-    let lanes = &mut *m.lanes;
+    let queue = &mut *w.queue;
+    let log = &mut *w.log;
+    let lanes = &mut *w.lanes;
     let charged = charge_tick(s, lanes);
     if is_quiet(s) {
         return tick_quiet(s, charged, lanes);
     }
-    let planned = plan(s, queue, prios, lanes);
+    let planned = plan(s, queue, w.prios, lanes);
     let tick = next_tick(s);
     let written = write_at(s.log, s.capacities.events, log, lanes, planned.moves, tick);
     Decided {
@@ -280,12 +278,11 @@ fn tick_taken(s: Sched, m: &mut LentMemory) -> Decided
 }
 
 // All of a tick end but what it does to the thread records.
-pub fn tick_decided(s: Sched, m: &mut LentMemory) -> Decided
-    requires { Valid s (held m.old) }
-    ensures done { TickPending result.answer result.switches s result.sched result.moves (held m.old) (held m.new) }
-    ensures records { m.new.threads.now ≡ m.old.threads.now }
-    ensures prios { m.new.prios.now ≡ m.old.prios.now }
-    ensures lent { SameLoans m.old m.new }
+pub fn tick_decided(s: Sched, w: &mut LentWords) -> Decided
+    requires { (ts : List ThreadInfo) × Valid s (held_words ts w.old) }
+    ensures done { (ts : List ThreadInfo) → Valid s (held_words ts w.old)
+        → TickPending result.answer result.switches s result.sched result.moves (held_words ts w.old) (held_words ts w.new) }
+    ensures lent { SameWords w.old w.new }
 {
     let answer = check_tick(s);
     match answer {
@@ -295,6 +292,6 @@ pub fn tick_decided(s: Sched, m: &mut LentMemory) -> Decided
             switches: no_switches(),
             moves: 0,
         },
-        Ok(()) => tick_taken(s, m),
+        Ok(()) => tick_taken(s, w),
     }
 }

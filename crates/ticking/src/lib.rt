@@ -42,16 +42,24 @@ fn retired_all(s: Sched) -> Sched
 }
 
 // So many ticks, each on what the one before left.
-pub fn run_ticks(first: Sched, ticks: usize, m: &mut LentMemory) -> Sched
-    requires { 0 < ticks → Valid first (held m.old) }
-    ensures done { TurnsDone ticks first result (held m.old) (held m.new) }
-    ensures prios { m.new.prios.now ≡ m.old.prios.now }
-    ensures lent { SameLoans m.old m.new }
+pub fn run_ticks(
+    first: Sched,
+    ticks: usize,
+    threads: &mut [ThreadInfo],
+    queue: &mut [u32],
+    prios: &[u32],
+    log: &mut [u64],
+    lanes: &mut [u64],
+) -> Sched
+    requires { 0 < ticks → Valid first (memory threads.old queue.old prios.now log.old lanes.old) }
+    ensures { TurnsDone ticks first result
+        (memory threads.old queue.old prios.now log.old lanes.old)
+        (memory threads.new queue.new prios.now log.new lanes.new) }
 {
     let mut last = first;
     for _ in 0..ticks {
         let reported = retired_all(last);
-        let t = end_tick(reported, m);
+        let t = end_tick(reported, threads, queue, prios, log, lanes);
         last = t.sched;
     }
     last
@@ -102,15 +110,18 @@ pub fn run_load(
     ensures done { LoadDone config cores capacities count ticks (held m.old) (held m.new) result }
     ensures lent { SameLoans m.old m.new }
 {
-    let created = new(config, cores, capacities, 0, m);
-    let spawns = calls_due(created, count);
     let threads = &mut *m.threads;
     let queue = &mut *m.queue;
     let prios = &mut *m.prios;
     let log = &mut *m.log;
+    let lanes = &mut *m.lanes;
+    let created = new(
+        config, cores, capacities, 0, threads, queue, prios, log, lanes,
+    );
+    let spawns = calls_due(created, count);
     let first = spawn_all(created.sched, spawns, threads, queue, prios, log);
     let turns = calls_due(created, ticks);
-    let last = run_ticks(first, turns, m);
+    let last = run_ticks(first, turns, threads, queue, prios, log, lanes);
     Loaded {
         made: created.answer,
         sched: last,

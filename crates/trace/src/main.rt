@@ -63,12 +63,21 @@ fn start(setup: Setup, s: Sched, m: &mut LentMemory) -> Sched
     ensures valid { Valid result (held m.new) }
     ensures lent { SameLoans m.old m.new }
 {
+    let threads = &mut *m.threads;
+    let queue = &mut *m.queue;
+    let prios = &mut *m.prios;
+    let log = &mut *m.log;
+    let lanes = &mut *m.lanes;
     let created = new(
         setup.config,
         setup.cores,
         setup.capacities,
         setup.entry_pc,
-        m,
+        threads,
+        queue,
+        prios,
+        log,
+        lanes,
     );
     print_created(created.answer);
     match created.answer {
@@ -121,7 +130,14 @@ fn first(m: &mut LentMemory) -> Sched
         events: 1,
         segments: 1,
     };
-    let created = new(config, 1, capacities, 0, m);
+    let threads = &mut *m.threads;
+    let queue = &mut *m.queue;
+    let prios = &mut *m.prios;
+    let log = &mut *m.log;
+    let lanes = &mut *m.lanes;
+    let created = new(
+        config, 1, capacities, 0, threads, queue, prios, log, lanes,
+    );
     created.sched
 }
 

@@ -8,14 +8,14 @@ use Rattle.force_plan.proofs.force.force_decided.Goals as goal
 pub force_taken-requires : goal.force_taken-requires
 force_taken-requires c =
     let at : c.in-Ok.at ≡ unwrap_or c.place-at.result c.args.s.queued = rw c.in-Ok.is at c.check_force.ensures.place in
-    (option_tid_meant c.args.named, rw at (forceable c.args.s c.args.m.now.threads.now c.args.m.now.queue.now c.args.m.now.prios.now c.args.m.now.log.now c.args.m.now.lanes.now (option_tid_meant c.args.named) _ c.args.core.0 c.requires c.place-at.ensures _ refl (ap place_check_meant (sym c.in-Ok.is) ∙ c.check_force.ensures.refusal)))
+    (option_tid_meant c.args.named, (c.requires.0, rw at (forceable c.args.s c.requires.0 c.args.w.now.queue.now c.args.w.now.prios.now c.args.w.now.log.now c.args.w.now.lanes.now (option_tid_meant c.args.named) _ c.args.core.0 c.requires.1 c.place-at.ensures _ refl (ap place_check_meant (sym c.in-Ok.is) ∙ c.check_force.ensures.refusal))))
 
 pub returns-in-Err-clause-done : goal.returns-in-Err-clause-done
 returns-in-Err-clause-done c =
-    pending-refused c.args.s c.args.m.now.threads.now c.args.m.now.queue.now c.args.m.now.prios.now c.args.m.now.log.now c.args.m.now.lanes.now (option_tid_meant c.args.named) _ c.args.core.0 c.requires c.place-at.ensures _ _ _ c.no_switches.ensures refl (ap place_check_meant (sym c.in-Err.is) ∙ c.check_force.ensures.refusal)
+    λ ts v. pending-refused c.args.s ts c.args.w.now.queue.now c.args.w.now.prios.now c.args.w.now.log.now c.args.w.now.lanes.now (option_tid_meant c.args.named) _ c.args.core.0 v c.place-at.ensures _ _ _ c.no_switches.ensures refl (ap place_check_meant (sym c.in-Err.is) ∙ c.check_force.ensures.refusal)
 
 pub returns-in-Ok-clause-done : goal.returns-in-Ok-clause-done
 returns-in-Ok-clause-done c =
     let at : c.in-Ok.at ≡ unwrap_or c.place-at.result c.args.s.queued = rw c.in-Ok.is at c.check_force.ensures.place in
-    c.force_taken.ensures.done (option_tid_meant c.args.named)
-    (rw at (forceable c.args.s c.args.m.now.threads.now c.args.m.now.queue.now c.args.m.now.prios.now c.args.m.now.log.now c.args.m.now.lanes.now (option_tid_meant c.args.named) _ c.args.core.0 c.requires c.place-at.ensures _ refl (ap place_check_meant (sym c.in-Ok.is) ∙ c.check_force.ensures.refusal)))
+    λ ts v. c.force_taken.ensures.done (option_tid_meant c.args.named) ts
+    (rw at (forceable c.args.s ts c.args.w.now.queue.now c.args.w.now.prios.now c.args.w.now.log.now c.args.w.now.lanes.now (option_tid_meant c.args.named) _ c.args.core.0 v c.place-at.ensures _ refl (ap place_check_meant (sym c.in-Ok.is) ∙ c.check_force.ensures.refusal)))

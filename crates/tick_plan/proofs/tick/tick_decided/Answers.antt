@@ -7,4 +7,4 @@ tick_taken-requires c = (taken_none _ _ c.in-Ok.is c.check_tick-answer.ensures, 
 
 pub returns-in-Err-clause-done : goal.returns-in-Err-clause-done
 returns-in-Err-clause-done c =
-    pending-refused c.args.s c.args.m.now.threads.now c.args.m.now.queue.now c.args.m.now.prios.now c.args.m.now.log.now c.args.m.now.lanes.now c.requires _ _ _ c.no_switches.ensures c.in-Err.is c.check_tick-answer.ensures
+    λ ts v. pending-refused c.args.s ts c.args.w.now.queue.now c.args.w.now.prios.now c.args.w.now.log.now c.args.w.now.lanes.now v _ _ _ c.no_switches.ensures c.in-Err.is c.check_tick-answer.ensures
