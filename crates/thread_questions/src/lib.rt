@@ -13,7 +13,7 @@ ghost use Rattle.model.specs.Questions.{thread_at, has_live, has_runnable, is_de
 ghost use Rattle.record_reads.specs.Totals.{totals_of};
 ghost use Rattle.state.specs.Asked.{Askable, Answers, the_threads};
 ghost use Rattle.summary.specs.Reading.{SumsAre, figures_meant, figure_bits};
-ghost use Rattle.thread_questions.specs.Reading.{option_thread_meant};
+ghost use Rattle.thread_questions.specs.Reading.{option_thread_meant, asked_of};
 
 use left::{any_live, any_runnable, only_blocked};
 use model::{ThreadInfo, Tid};
@@ -22,6 +22,15 @@ use record_reads::totals::Totals;
 use state::Sched;
 use summary::{FigureBits, SchedSummary, Sums, bits_from, figures_from, sums_from};
 use threads::{record_at, totals};
+
+// What is left to run, and the bit patterns of the summary's figures.
+#[derive(Clone, Copy)]
+pub struct Asked {
+    pub live: bool,
+    pub runnable: bool,
+    pub deadlocked: bool,
+    pub bits: FigureBits,
+}
 
 // The records in use, in thread order: a part of the lent records.
 pub fn threads(s: Sched, threads: &[ThreadInfo]) -> &[ThreadInfo]
@@ -97,4 +106,21 @@ pub fn bits_of(s: Sched, threads: &[ThreadInfo]) -> FigureBits
     ensures { Answers s (the_threads threads.now) (λ d. result ≡ figure_bits (figures (sums d.accounts))) }
 {
     bits_from(s, totals_in_use(s, threads))
+}
+
+// The questions about all threads at once.
+pub fn asked_in(s: Sched, threads: &[ThreadInfo]) -> Asked
+    requires { Askable s (the_threads threads.now) }
+    ensures { Answers s (the_threads threads.now) (λ d. result ≡ asked_of d) }
+{
+    let live = has_live_threads(s, threads);
+    let runnable = has_runnable_threads(s, threads);
+    let deadlocked = is_deadlocked(s, threads);
+    let bits = bits_of(s, threads);
+    Asked {
+        live,
+        runnable,
+        deadlocked,
+        bits,
+    }
 }

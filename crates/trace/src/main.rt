@@ -12,7 +12,7 @@ use sched_new::new;
 use settings::{SchedConfig, SchedPolicy};
 use state::memory::LentMemory;
 use state::{Capacities, Sched};
-use thread_questions::{bits_of, has_live_threads, has_runnable_threads, is_deadlocked};
+use thread_questions::asked_in;
 use trace_answers::{print_applied, print_bad, print_created, print_shown};
 use trace_read::lines::{read_count, read_line};
 use trace_read::{Line, Setup};
@@ -47,13 +47,14 @@ fn show(s: Sched, m: &LentMemory)
     for t in thread_questions::threads(s, m.threads) {
         print_thread(*t);
     }
+    let asked = asked_in(s, m.threads);
     let left = Left {
-        live: has_live_threads(s, m.threads),
-        runnable: has_runnable_threads(s, m.threads),
-        deadlocked: is_deadlocked(s, m.threads),
+        live: asked.live,
+        runnable: asked.runnable,
+        deadlocked: asked.deadlocked,
     };
     print_rest(s, left, m.log, m.lanes);
-    let f = bits_of(s, m.threads);
+    let f = asked.bits;
     print_figures(f.waiting, f.response, f.turnaround, f.utilization);
 }
 
