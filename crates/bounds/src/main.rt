@@ -6,6 +6,9 @@
 // read off what the calls left: the list is replayed up to each tick end.
 #![tactic(auto)]
 
+ghost use Rattle.std.specs.Prelude.{◌≤◌, length};
+ghost use Rattle.text.specs.Buffers.{StillLent};
+
 use model::{CoreId, Switch, ThreadInfo, Tid};
 use records::change::first_thread;
 use replay::{Replayed, replay};
@@ -95,7 +98,9 @@ fn bound(p: u64, cores: u32, quantum: u32, cost: u32) -> u64 {
 }
 
 // The whole list, and how many calls there are up to the end of the first tick.
-fn put_calls(calls: &mut [Call], board: Board) -> usize {
+fn put_calls(calls: &mut [Call], board: Board) -> usize
+    ensures { result ≤ length calls.new }
+{
     let mut list = CallList { calls, count: 0 };
     list.put_start(board);
     let start = list.count;
@@ -105,27 +110,41 @@ fn put_calls(calls: &mut [Call], board: Board) -> usize {
 
 impl CallList<'_> {
     // The next call. A full list stays as it is.
-    fn put(&mut self, call: Call) {
-        if let Some(place) = self.calls.get_mut(self.count) {
-            *place = call;
+    fn put(&mut self, call: Call)
+        ensures within { self.new.count ≤ length self.new.calls.now }
+        ensures lent { StillLent self.old.calls self.new.calls }
+    {
+        if self.count < self.calls.len() {
+            self.calls[self.count] = call;
             self.count += 1;
+        } else {
+            self.count = self.calls.len();
         }
     }
 
-    fn put_reports(&mut self, cores: u32) {
+    fn put_reports(&mut self, cores: u32)
+        ensures within { self.old.count ≤ length self.old.calls.now → self.new.count ≤ length self.new.calls.now }
+        ensures lent { StillLent self.old.calls self.new.calls }
+    {
         for core in 0..cores {
             self.put(Call::Retired(CoreId(core)));
         }
     }
 
-    fn put_spawns(&mut self, spawns: u32) {
+    fn put_spawns(&mut self, spawns: u32)
+        ensures within { self.old.count ≤ length self.old.calls.now → self.new.count ≤ length self.new.calls.now }
+        ensures lent { StillLent self.old.calls self.new.calls }
+    {
         for _ in 0..spawns {
             self.put(Call::Spawn(Some(Tid(0)), 0));
         }
     }
 
     // Up to the end of the first tick, in which thread 0 yields.
-    fn put_start(&mut self, board: Board) {
+    fn put_start(&mut self, board: Board)
+        ensures within { self.new.count ≤ length self.new.calls.now }
+        ensures lent { StillLent self.old.calls self.new.calls }
+    {
         self.put_spawns(board.spawns);
         self.put_reports(board.cores);
         self.put(Call::YieldNow(CoreId(0)));
@@ -133,7 +152,10 @@ impl CallList<'_> {
     }
 
     // Ticks before each of which every core reports, 250 of them.
-    fn put_ticks(&mut self, cores: u32) {
+    fn put_ticks(&mut self, cores: u32)
+        ensures within { self.old.count ≤ length self.old.calls.now → self.new.count ≤ length self.new.calls.now }
+        ensures lent { StillLent self.old.calls self.new.calls }
+    {
         for _ in 0..250 {
             self.put_reports(cores);
             self.put(Call::EndTick);
