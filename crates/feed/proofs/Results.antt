@@ -53,15 +53,33 @@ loans-then h k =
 ---- a line
 
 -- the slices keep their lengths
-pub roomy-kept : (old new : LentMemory) → SameLoans old new → Roomy (held old) → Roomy (held new)
-roomy-kept old new l k =
+pub record Long (m m' : Memory) : Type 0 where
+  pub threads : length m'.threads ≡ length m.threads
+  pub queue : length m'.queue ≡ length m.queue
+  pub prios : length m'.prios ≡ length m.prios
+  pub log : length m'.log ≡ length m.log
+  pub lanes : length m'.lanes ≡ length m.lanes
+
+pub roomy-kept : (m m' : Memory) → Long m m' → Roomy m → Roomy m'
+roomy-kept m m' l k =
     record {
-      threads = rw l.threads.long k.threads;
-      queue = rw l.queue.long k.queue;
-      prios = rw l.prios.long k.prios;
-      log = rw l.log.long k.log;
-      lanes = rw l.lanes.long k.lanes;
+      threads = rw l.threads k.threads;
+      queue = rw l.queue k.queue;
+      prios = rw l.prios k.prios;
+      log = rw l.log k.log;
+      lanes = rw l.lanes k.lanes;
     }
+
+-- and so do the same loans
+pub roomy-lent : (old new : LentMemory) → SameLoans old new → Roomy (held old) → Roomy (held new)
+roomy-lent old new l =
+    roomy-kept (held old) (held new) (record {
+      threads = l.threads.long;
+      queue = l.queue.long;
+      prios = l.prios.long;
+      log = l.log.long;
+      lanes = l.lanes.long;
+    })
 
 module _ (r : Report) (line : List ℕ) (m : Memory) (v : ReportValid r m) where
   module _ (x : Result Line Refusal) (k : LineRead r line x) where

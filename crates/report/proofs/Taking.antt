@@ -86,15 +86,18 @@ count_fits r m bs n bs' v p =
     omega (arith, w, e)
 
 -- before the first line
-pub sized : (t : ThreadInfo) → Meant.Roomy (memory (replicate 256 t) (replicate 256 0) (replicate 256 0) (replicate 1_024 0) (replicate 4_176 0))
-sized t =
-    record {
-      threads = omega (arith, length-replicate 256 t);
-      queue = omega (arith, length-replicate {A = ℕ} 256 0);
-      prios = omega (arith, length-replicate {A = ℕ} 256 0);
-      log = omega (arith, length-replicate {A = ℕ} 1_024 0);
-      lanes = omega (arith, length-replicate {A = ℕ} 4_176 0);
-    }
+pub sized : (ts : List ThreadInfo) (qs ps ls ws : List ℕ) → 256 ≡ length ts → 256 ≡ length qs → 256 ≡ length ps → 1_024 ≡ length ls → 4_176 ≡ length ws → Meant.Roomy (memory ts qs ps ls ws)
+sized ts qs ps ls ws t q p l w = record { threads = omega (arith, t); queue = omega (arith, q); prios = omega (arith, p); log = omega (arith, l); lanes = omega (arith, w) }
+
+-- as `main` writes them
+pub sized-first : (t : ThreadInfo) → Meant.Roomy (memory (replicate 256 t) (replicate 256 0) (replicate 256 0) (replicate 1_024 0) (replicate 4_176 0))
+sized-first t =
+    sized _ _ _ _ _
+    (sym (length-replicate 256 t))
+    (sym (length-replicate {A = ℕ} 256 0))
+    (sym (length-replicate {A = ℕ} 256 0))
+    (sym (length-replicate {A = ℕ} 1_024 0))
+    (sym (length-replicate {A = ℕ} 4_176 0))
 
 pub first-few : (r : Report) (m : Memory) → Starts r → Meant.Roomy m → Meant.Few r.stage r.lines
 first-few r m s roomy = lines-few r [] m (s.valid m roomy)

@@ -136,9 +136,7 @@ fn first(m: &mut LentMemory) -> Sched
     let prios = &mut *m.prios;
     let log = &mut *m.log;
     let lanes = &mut *m.lanes;
-    let created = new(
-        config, 1, capacities, 0, threads, queue, prios, log, lanes,
-    );
+    let created = new(config, 1, capacities, 0, threads, queue, prios, log, lanes);
     created.sched
 }
 

@@ -1,5 +1,5 @@
 use Rattle.feed_plan.proofs.Feeding.{lines-few}
-use Rattle.feed.proofs.Results.{roomy-kept, says-it, fed}
+use Rattle.feed.proofs.Results.{roomy-lent, says-it, fed}
 use Rattle.feed.proofs.feed.Goals as goal
 
 pub read_line-said-requires : goal.read_line-said-requires
@@ -11,4 +11,4 @@ put_next-requires c = says-it c.args.r _ _ c.requires.0 _ c.read_line-said.ensur
 pub returns-clause-done : goal.returns-clause-done
 returns-clause-done c =
     let a = c.advance-next.ensures in
-    fed c.args.r _ _ c.requires.0 _ c.read_line-said.ensures _ _ _ a.done c.requires.1 (roomy-kept _ _ a.lent c.requires.0.memory) _ _ c.put_next.ensures
+    fed c.args.r _ _ c.requires.0 _ c.read_line-said.ensures _ _ _ a.done c.requires.1 (roomy-lent _ _ a.lent c.requires.0.memory) _ _ c.put_next.ensures

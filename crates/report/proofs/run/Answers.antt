@@ -1,6 +1,6 @@
 use native.Mathlib.Omega.{arith}
 use Rattle.state.specs.Memory.{held}
-use Rattle.feed.proofs.Results.{roomy-kept}
+use Rattle.feed.proofs.Results.{roomy-lent}
 use Rattle.report.proofs.Keeping.{finished}
 use Rattle.report.proofs.Taking.{asked, printable, goes_on, count_fits}
 use Rattle.report.proofs.run.Goals as goal
@@ -14,14 +14,14 @@ pub pass-u-requires : goal.pass-u-requires
 pass-u-requires c =
     let l = c.loop-u in
     let n = c.advance-next in
-    printable l.r l.u (held l.m) l.blocks c.loop-u-test.true l.invariant n.result (held n.new.m) n.ensures.done (roomy-kept l.m n.new.m n.ensures.lent l.invariant.valid.memory)
+    printable l.r l.u (held l.m) l.blocks c.loop-u-test.true l.invariant n.result (held n.new.m) n.ensures.done (roomy-lent l.m n.new.m n.ensures.lent l.invariant.valid.memory)
 
 pub loop-u-preserved : goal.loop-u-preserved
 loop-u-preserved c =
     let l = c.loop-u in
     let n = c.advance-next in
     let p = c.pass-u in
-    goes_on l.r l.u (held l.m) l.blocks c.loop-u-test.true l.invariant n.result (held n.new.m) n.ensures.done (roomy-kept l.m n.new.m n.ensures.lent l.invariant.valid.memory)
+    goes_on l.r l.u (held l.m) l.blocks c.loop-u-test.true l.invariant n.result (held n.new.m) n.ensures.done (roomy-lent l.m n.new.m n.ensures.lent l.invariant.valid.memory)
     p.result p.new.blocks c.marked_report-r.result p.ensures p.auto.blocks c.marked_report-r.ensures
 
 pub write_end-requires : goal.write_end-requires

@@ -1,4 +1,4 @@
-use Rattle.feed.proofs.Results.{roomy-kept}
+use Rattle.feed.proofs.Results.{roomy-lent}
 use Rattle.script_report.proofs.Results.{reachable, sayable, turned}
 use Rattle.script_report.proofs.feed_next.Goals as goal
 
@@ -11,4 +11,4 @@ put_progress-requires c = sayable _ _ _ _ c.requires c.reach-q.result c.reach-q.
 pub returns-clause-done : goal.returns-clause-done
 returns-clause-done c =
     let d = c.advance-next.ensures in
-    turned _ _ _ _ c.requires c.reach-q.result c.reach-q.ensures _ _ d.done (roomy-kept _ _ d.lent c.requires.valid.memory) _ _ c.put_progress.ensures
+    turned _ _ _ _ c.requires c.reach-q.result c.reach-q.ensures _ _ d.done (roomy-lent _ _ d.lent c.requires.valid.memory) _ _ c.put_progress.ensures
