@@ -1,4 +1,5 @@
 pub mod Chains
+pub mod Encoded
 pub mod Every
 pub mod Framed
 pub mod Lists

@@ -1,7 +1,7 @@
 -- Calls one after the other: what is left after the next one, and what a whole list comes to.
 use Rattle.settings.specs.declared.Refusal.{Refusal}
 use Rattle.std.specs.Prelude.{Result}
-use Prim.Native.Nat.{ℕ, ◌+◌, ◌<◌}
+use Prim.Native.Nat.{ℕ, suc, ◌+◌, ◌*◌, ◌/◌, ◌<◌}
 use native.Mathlib.Omega.{arith}
 use mathlib.Core.Path.{◌≡◌, refl, sym, ap, subst, ◌∙◌}
 use mathlib.Core.Option.{Option, none, some}
@@ -31,6 +31,8 @@ use Rattle.sched.specs.declared.Call as Program
 use Rattle.sched.specs.Meant.{call_meant, outcome_meant}
 use Rattle.replay.specs.Chain.{Link, Linked, Guaranteed, ChainHolds, last_sched, last_memory, last_said}
 use Rattle.replay.specs.Replay.{last_answer, due, Behind, AppliedAll, ReplayTaken, ReplayDone}
+use Rattle.replay.specs.Encoding.{call_at, calls_of}
+use Rattle.replay.proofs.Encoded.{take_next, long-calls}
 use Rattle.replay.proofs.Chains.{agrees-run, agrees-said, linked-valid, linked-snoc, sched-snoc, memory-snoc, said-snoc, chain-holds}
 use Rattle.replay.proofs.Framed.{linked-threads, linked-behind, first_one, first-events, first-segments, first-cores, behind-new, behind-then}
 
@@ -63,6 +65,13 @@ module _ (a b d : Applied) (m m' m'' : Memory) where
       → DoneWith (call_meant (get_or calls i x)) (outcome_meant d.outcome d.switches) d.switches b.sched d.sched m' m'' → AppliedAll (map call_meant (take (i + 1) calls)) a d m m''
   all-next calls i x l h k = subst (λ (cs : List Call). AppliedAll cs a d m m'') (sym (map_more call_meant calls i x l)) (all_snoc (map call_meant (take i calls)) (call_meant (get_or calls i x)) h k)
 
+  pub words-next : (words : List ℕ) (i : ℕ) → 3 * i + 2 < length words → AppliedAll (take i (calls_of words)) a b m m'
+      → (c : Call) → c ≡ call_at words i → DoneWith c (outcome_meant d.outcome d.switches) d.switches b.sched d.sched m' m'' → AppliedAll (take (i + 1) (calls_of words)) a d m m''
+  words-next words i l h c e k =
+      let p : i + 1 ≡ suc i = omega arith in
+      subst (λ (cs : List Call). AppliedAll cs a d m m'') (sym (ap (λ (j : ℕ). take j (calls_of words)) p ∙ take_next words i l))
+      (subst (λ (x : Call). AppliedAll (take i (calls_of words) ++ (x ∷ [])) a d m m'') e (all_snoc (take i (calls_of words)) c h k))
+
 pub all-made : (calls : List Program.Call) (i : ℕ) (a b : Applied) (m m' : Memory) → i ≡ length calls → AppliedAll (map call_meant (take i calls)) a b m m' → AppliedAll (map call_meant calls) a b m m'
 all-made calls i a b m m' e = subst (λ (l : List Program.Call). AppliedAll (map call_meant l) a b m m') (ap (λ (n : ℕ). take n calls) e ∙ take-length calls)
 
@@ -70,6 +79,10 @@ all-made calls i a b m m' e = subst (λ (l : List Program.Call). AppliedAll (map
 pub due-made : (calls : List Program.Call) (x : Option ℕ) (upto : ℕ) (a b : Applied) (m m' : Memory) → AppliedAll (map call_meant (take (due x (length calls) upto) calls)) a b m m'
     → AppliedAll (take (due x (length (map call_meant calls)) upto) (map call_meant calls)) a b m m'
 due-made calls x upto a b m m' h = rw (length-map calls call_meant) (rw (take-map call_meant (due x (length calls) upto) calls) h)
+
+pub words-made : (words : List ℕ) (x : Option ℕ) (upto : ℕ) (a b : Applied) (m m' : Memory) → AppliedAll (take (due x (length words / 3) upto) (calls_of words)) a b m m'
+    → AppliedAll (take (due x (length (calls_of words)) upto) (calls_of words)) a b m m'
+words-made words x upto a b m m' h = rw (long-calls words) h
 
 ---- the whole
 
