@@ -53,9 +53,10 @@ pub struct Sched {
     pub queued: usize,
     pub now: Tick,
     pub context_switches: u64,
-    pub closed: bool,
     pub states: Eight,
     pub marks: Marks,
+    // Here a word of its own: beside a core's words the two were copied as one, bit by bit (docs/DECISIONS.md, "Speed").
+    pub closed: bool,
     pub ticks: [CoreTicks; 8],
     pub log: RingPos,
     pub lanes: [RingPos; 8],
