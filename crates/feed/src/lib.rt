@@ -16,7 +16,7 @@ use feed_plan::steps::{capacities, headed, of_applied, of_created, quiet, refuse
 use feed_plan::{Fed, Line, Next, Report};
 use model::ThreadInfo;
 use sched::apply;
-use sched_new::new;
+use sched_new::new_on;
 use settings::Refusal;
 use state::memory::LentMemory;
 use threads::totals;
@@ -32,23 +32,7 @@ pub fn advance(r: Report, line: Result<Line, Refusal>, m: &mut LentMemory) -> Ne
         Ok(Line::Nothing) => quiet(r),
         Ok(Line::Head(head)) => headed(r, head),
         Ok(Line::Start { config, cores }) => {
-            let threads = &mut *m.threads;
-            let queue = &mut *m.queue;
-            let prios = &mut *m.prios;
-            let log = &mut *m.log;
-            let lanes = &mut *m.lanes;
-            let created = new(
-                config,
-                cores,
-                capacities(),
-                0,
-                threads,
-                queue,
-                prios,
-                log,
-                lanes,
-            );
-            of_created(r, created)
+            of_created(r, new_on(config, cores, capacities(), 0, m))
         }
         Ok(Line::Call(call)) => of_applied(r, apply(r.sched, call, m)),
     }

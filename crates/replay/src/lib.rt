@@ -10,14 +10,13 @@ ghost use Rattle.state.specs.Memory.{held, SameLoans};
 ghost use Rattle.state.specs.State.{Valid};
 ghost use Rattle.switches.specs.Entries.{no_switches};
 ghost use Rattle.checks.specs.Check.{check_meant};
-ghost use Rattle.new_plan.specs.Made.{NewDone};
 ghost use Rattle.sched.specs.Meant.{call_meant, outcome_meant};
 ghost use Rattle.replay.specs.Encoding.{calls_of};
 ghost use Rattle.replay.specs.Replay.{due, AppliedAll, ReplayDone};
 
 use new_plan::Created;
 use sched::{Applied, Call, Outcome, apply};
-use sched_new::new;
+use sched_new::new_on;
 use settings::{Refusal, SchedConfig};
 use state::memory::LentMemory;
 use state::{Capacities, Sched};
@@ -31,27 +30,6 @@ pub struct Replayed {
     pub sched: Sched,
     pub outcome: Result<Outcome, Refusal>,
     pub switches: SwitchList,
-}
-
-// `new` on the lent memory.
-fn begin(
-    config: SchedConfig,
-    cores: u32,
-    capacities: Capacities,
-    entry_pc: u32,
-    m: &mut LentMemory,
-) -> Created
-    ensures done { NewDone config cores capacities entry_pc (held m.old) (held m.new) result.sched result.answer }
-    ensures lent { SameLoans m.old m.new }
-{
-    let threads = &mut *m.threads;
-    let queue = &mut *m.queue;
-    let prios = &mut *m.prios;
-    let log = &mut *m.log;
-    let lanes = &mut *m.lanes;
-    new(
-        config, cores, capacities, entry_pc, threads, queue, prios, log, lanes,
-    )
 }
 
 // How many calls are made: none where `new` is refused.
@@ -126,7 +104,7 @@ pub fn replay(
     ensures done { ReplayDone config cores capacities entry_pc (map call_meant calls.now) upto (held m.old) (held m.new) result }
     ensures lent { SameLoans m.old m.new }
 {
-    let created = begin(config, cores, capacities, entry_pc, m);
+    let created = new_on(config, cores, capacities, entry_pc, m);
     let n = calls_due(created, calls.len(), upto);
     let first = first_of(created);
     let last = apply_all(first, &calls[..n], m);
@@ -146,9 +124,9 @@ pub fn replay_words(
     ensures done { ReplayDone config cores capacities entry_pc (calls_of words.now) upto (held m.old) (held m.new) result }
     ensures lent { SameLoans m.old m.new }
 {
-    let created = begin(config, cores, capacities, entry_pc, m);
-    let n = calls_due(created, words.len() / 3, upto);
-    let first = first_of(created);
+    let made = new_on(config, cores, capacities, entry_pc, m);
+    let n = calls_due(made, words.len() / 3, upto);
+    let first = first_of(made);
     let last = apply_words(first, words, n, m);
-    replay_of(created, last)
+    replay_of(made, last)
 }

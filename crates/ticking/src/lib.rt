@@ -14,7 +14,7 @@ ghost use Rattle.ticking.specs.Load.{due, LoadDone};
 use model::{CoreId, ThreadInfo, Tid};
 use new_plan::Created;
 use sched_marks::marks::retired;
-use sched_new::new;
+use sched_new::new_on;
 use sched_threads::spawn;
 use sched_tick::end_tick;
 use settings::{Refusal, SchedConfig};
@@ -110,17 +110,15 @@ pub fn run_load(
     ensures done { LoadDone config cores capacities count ticks (held m.old) (held m.new) result }
     ensures lent { SameLoans m.old m.new }
 {
+    let created = new_on(config, cores, capacities, 0, m);
+    let spawns = calls_due(created, count);
     let threads = &mut *m.threads;
     let queue = &mut *m.queue;
     let prios = &mut *m.prios;
     let log = &mut *m.log;
-    let lanes = &mut *m.lanes;
-    let created = new(
-        config, cores, capacities, 0, threads, queue, prios, log, lanes,
-    );
-    let spawns = calls_due(created, count);
     let first = spawn_all(created.sched, spawns, threads, queue, prios, log);
     let turns = calls_due(created, ticks);
+    let lanes = &mut *m.lanes;
     let last = run_ticks(first, turns, threads, queue, prios, log, lanes);
     Loaded {
         made: created.answer,

@@ -8,7 +8,7 @@ ghost use Rattle.state.specs.State.{Valid};
 
 use records::change::first_thread;
 use sched::{Call, apply};
-use sched_new::new;
+use sched_new::new_on;
 use settings::{SchedConfig, SchedPolicy};
 use state::memory::LentMemory;
 use state::{Capacities, Sched};
@@ -64,21 +64,12 @@ fn start(setup: Setup, s: Sched, m: &mut LentMemory) -> Sched
     ensures valid { Valid result (held m.new) }
     ensures lent { SameLoans m.old m.new }
 {
-    let threads = &mut *m.threads;
-    let queue = &mut *m.queue;
-    let prios = &mut *m.prios;
-    let log = &mut *m.log;
-    let lanes = &mut *m.lanes;
-    let created = new(
+    let created = new_on(
         setup.config,
         setup.cores,
         setup.capacities,
         setup.entry_pc,
-        threads,
-        queue,
-        prios,
-        log,
-        lanes,
+        m,
     );
     print_created(created.answer);
     match created.answer {
@@ -131,12 +122,7 @@ fn first(m: &mut LentMemory) -> Sched
         events: 1,
         segments: 1,
     };
-    let threads = &mut *m.threads;
-    let queue = &mut *m.queue;
-    let prios = &mut *m.prios;
-    let log = &mut *m.log;
-    let lanes = &mut *m.lanes;
-    let created = new(config, 1, capacities, 0, threads, queue, prios, log, lanes);
+    let created = new_on(config, 1, capacities, 0, m);
     created.sched
 }
 

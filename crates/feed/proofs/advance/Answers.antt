@@ -22,7 +22,7 @@ returns-in-Ok-Head-clause-done c =
 pub returns-in-Ok-Start-clause-done : goal.returns-in-Ok-Start-clause-done
 returns-in-Ok-Start-clause-done c =
     let is : c.args.line ≡ Ok (LineCases.Start c.in-Ok-Start.config c.in-Ok-Start.cores) = grind arith in
-    started c.args.r _ _ _ _ _ _ _ _ is c.capacities.ensures c.of_created.ensures c.requires c.new-created.ensures
+    started c.args.r _ _ _ _ _ _ _ _ is c.capacities.ensures c.of_created.ensures c.requires c.new_on.ensures.done
 
 pub returns-in-Ok-Call-clause-done : goal.returns-in-Ok-Call-clause-done
 returns-in-Ok-Call-clause-done c =
