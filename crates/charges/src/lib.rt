@@ -1,4 +1,4 @@
-// What a tick charges one thread's record, by value.
+// What a tick charges one thread's record, in place.
 // Its public functions are parts for other crates: no host calls them.
 #![tactic(auto)]
 

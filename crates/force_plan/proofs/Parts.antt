@@ -4,7 +4,7 @@ use Prim.Native.Nat.{ℕ, ◌+◌, ◌<◌, ◌≤◌, ◌^◌}
 use mathlib.Core.Path.{◌≡◌, refl, sym, ap, ◌∙◌, subst}
 use mathlib.Core.Bool.{false}
 use mathlib.Core.Option.{Option}
-use mathlib.Core.List.{List, [], ◌++◌}
+use mathlib.Core.List.{List, ◌++◌}
 use native.Mathlib.Omega.{arith}
 use lib.ListN.{length, take, drop, get_or}
 use lib.Seq.{length-take-le, drop_at, length_front}
@@ -15,11 +15,10 @@ use Rattle.model.specs.declared.CoreState.TheVariants as CoreStateCases
 use Rattle.model.specs.declared.ThreadInfo.{ThreadInfo}
 use Rattle.model.specs.Types.{Core, State}
 use Rattle.model.specs.Phases.{Rules, update, without, dispatch_moves}
-use Rattle.model.specs.Calls.{force, rules, switched, is_switching, out_of, back_of, forced_core}
+use Rattle.model.specs.Calls.{force, rules, is_switching, out_of, back_of, forced_core}
 use Rattle.model.specs.Reading.{core_state_meant}
-use Rattle.model.specs.Accounting.{switch_list}
 use Rattle.switches.specs.declared.SwitchList.{SwitchList}
-use Rattle.switches.specs.Entries.{answer_with, ListFor, no_switches}
+use Rattle.switches.specs.Entries.{answer_with, no_switches}
 use Rattle.switches.proofs.Words.{list-refused}
 use Rattle.queue.specs.Words.{moves_in, NoLonger, Appended}
 use Rattle.queue.specs.Ready.{Picked}

@@ -1,5 +1,5 @@
-// What `force_switch` does beside the thread records: it refuses, or decides and writes the log. The records are lent along and left
-// as they are: the crate above moves them.
+// What `force_switch` does beside the thread records: it refuses, or decides and writes the log. The records are moved by the crate above,
+// which holds the lent slice.
 // Its public functions are parts for other crates: no host calls them.
 #![tactic(auto)]
 

@@ -14,8 +14,8 @@ use threads::{apply_moves, charge_all};
 use tick_plan::Ticked;
 use tick_plan::tick::{next_tick, tick_decided, tick_threads};
 
-// "Phase 1 charges, then now + 1": no phase reads a record, so the records are charged after what `tick_decided` does, and the moves are applied to them at
-// the new tick.
+// "Phase 1 charges, then now + 1"; what `tick_decided` decides is written into the records at the new tick. The records are charged first: where the state
+// is read after `tick_decided`, every call of `apply` stores more of it.
 pub fn end_tick(
     s: Sched,
     threads: &mut [ThreadInfo],
@@ -29,6 +29,7 @@ pub fn end_tick(
         (memory threads.old queue.old prios.now log.old lanes.old)
         (memory threads.new queue.new prios.now log.new lanes.new) }
 {
+    charge_all(threads, tick_threads(s), unpack(s.states));
     let mut words = LentWords {
         queue,
         prios,
@@ -36,7 +37,6 @@ pub fn end_tick(
         lanes,
     };
     let d = tick_decided(s, &mut words);
-    charge_all(threads, tick_threads(s), unpack(s.states));
     let lanes = &mut *words.lanes;
     apply_moves(threads, lanes, d.moves, next_tick(s));
     d.ticked()

@@ -1,5 +1,5 @@
-// The thread records, a lent slice in thread order. These few functions apply in place what `records` and the crates beside it have by
-// value, and read no field of a record themselves.
+// The thread records, a lent slice in thread order. These few functions apply in place what `records` and the crates beside it have for
+// one record, and read no field of a record themselves.
 // Its public functions are parts for other crates: no host calls them.
 #![tactic(auto)]
 

@@ -11,6 +11,6 @@ use Rattle.state.specs.Memory.{Memory, memory, held_words}
 use Rattle.tick_plan.specs.DoneWith.{DoneWith}
 
 pub done-at : (call : Call) (a : Answer) (l : SwitchList) (s s' : Sched) (m : Memory) (ts : List ThreadInfo) (w : LentWords) (qs ps ls ws : List ℕ)
-  → qs ≡ w.queue.now → ps ≡ w.prios.now → ls ≡ w.log.now → ws ≡ w.lanes.now
-  → DoneWith call a l s s' m (held_words ts w) → DoneWith call a l s s' m (memory ts qs ps ls ws)
+    → qs ≡ w.queue.now → ps ≡ w.prios.now → ls ≡ w.log.now → ws ≡ w.lanes.now
+    → DoneWith call a l s s' m (held_words ts w) → DoneWith call a l s s' m (memory ts qs ps ls ws)
 done-at call a l s s' m ts w qs ps ls ws q p o v d = rw (q, p, o, v) d

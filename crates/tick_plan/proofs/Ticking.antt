@@ -23,7 +23,7 @@ use Rattle.model.proofs.Refusals.{check-none, check-rest}
 use Rattle.model.proofs.Bounded.{all-at, charged-in, applied-ticks, applied-switches, switches-figure}
 use Rattle.queue.specs.Words.{moves_in}
 use Rattle.switches.specs.declared.SwitchList.{SwitchList}
-use Rattle.switches.specs.Entries.{answer_with, ListFor, no_switches}
+use Rattle.switches.specs.Entries.{answer_with, no_switches}
 use Rattle.switches.proofs.Words.{list-says, list-taken, list-refused}
 use Rattle.turns.specs.Turns.{rules_of}
 use Rattle.phases.specs.Cores.{board, pass_of}

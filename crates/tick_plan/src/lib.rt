@@ -1,5 +1,5 @@
-// What `end_tick` does beside the thread records: it charges counters and timelines, decides, and writes the log. The records are
-// lent along and left as they are: the crate above charges and moves them.
+// What `end_tick` does beside the thread records: it charges counters and timelines, decides, and writes the log. The records are charged and
+// moved by the crate above, which holds the lent slice.
 // Its public functions are parts for other crates: no host calls them.
 #![tactic(auto)]
 
