@@ -14,8 +14,8 @@ use threads::{apply_moves, charge_all};
 use tick_plan::Ticked;
 use tick_plan::tick::{next_tick, tick_decided, tick_threads};
 
-// "Phase 1 charges, then now + 1"; what `tick_decided` decides is written into the records at the new tick. The records are charged first: where the state
-// is read after `tick_decided`, every call of `apply` stores more of it.
+// "Charge, then now + 1." The records are charged first, and what `tick_decided` decides is written into them at the new tick. Where the state is read after
+// `tick_decided`, every call of `apply` stores more of it.
 pub fn end_tick(
     s: Sched,
     threads: &mut [ThreadInfo],
