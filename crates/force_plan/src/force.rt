@@ -3,7 +3,7 @@ ghost use Rattle.std.specs.Prelude.{◌≡◌, List, ℕ, ◌≤◌, length, unw
 ghost use Rattle.std.proofs.Math.Option.{Option};
 ghost use Rattle.model.specs.declared.ThreadInfo.{ThreadInfo};
 ghost use Rattle.model.specs.Reading.{option_tid_meant};
-ghost use Rattle.state.specs.Memory.{held_words, SameWords};
+ghost use Rattle.state.specs.Memory.{memory, held, held_words, SameLoans, SameWords};
 ghost use Rattle.state.specs.State.{Valid};
 ghost use Rattle.force_plan.specs.Plan.{AskedAt, ForceFits, ForcedOf, Forceable, ForcePending};
 
@@ -12,7 +12,7 @@ use decide::force::{force_core, place_asked};
 use model::{CoreId, Tid};
 use queue::moves::Moves;
 use queue::ready::ReadyQueue;
-use state::memory::LentWords;
+use state::memory::{LentMemory, LentWords};
 use state::{Sched, pack, unpack};
 use switches::no_switches;
 use tick_plan::tick::write;
@@ -76,7 +76,12 @@ fn force_taken(s: Sched, core: CoreId, at: usize, w: &mut LentWords) -> Decided
 }
 
 // All of a forced switch but what it does to the thread records.
-pub fn force_decided(s: Sched, core: CoreId, named: Option<Tid>, w: &mut LentWords) -> Decided
+pub fn force_decided_on_words(
+    s: Sched,
+    core: CoreId,
+    named: Option<Tid>,
+    w: &mut LentWords,
+) -> Decided
     requires { (ts : List ThreadInfo) × Valid s (held_words ts w.old) }
     ensures done { (ts : List ThreadInfo) → Valid s (held_words ts w.old)
         → ForcePending core.0 (option_tid_meant named) result.answer result.switches s result.sched result.moves
@@ -94,4 +99,43 @@ pub fn force_decided(s: Sched, core: CoreId, named: Option<Tid>, w: &mut LentWor
         },
         Ok(at) => force_taken(s, core, at, w),
     }
+}
+
+// The same on the slices one by one: the parts of a `LentMemory` can be lent to it, and can't be made a `LentWords` where they are.
+fn force_decided_on_slices(
+    s: Sched,
+    core: CoreId,
+    named: Option<Tid>,
+    queue: &mut [u32],
+    prios: &[u32],
+    log: &mut [u64],
+    lanes: &mut [u64],
+) -> Decided
+    requires { (ts : List ThreadInfo) × Valid s (memory ts queue.old prios.now log.old lanes.old) }
+    ensures { (ts : List ThreadInfo) → Valid s (memory ts queue.old prios.now log.old lanes.old)
+        → ForcePending core.0 (option_tid_meant named) result.answer result.switches s result.sched result.moves
+        (memory ts queue.old prios.now log.old lanes.old) (memory ts queue.new prios.now log.new lanes.new) }
+{
+    let mut words = LentWords {
+        queue,
+        prios,
+        log,
+        lanes,
+    };
+    force_decided_on_words(s, core, named, &mut words)
+}
+
+// The same for a caller that has the lent memory as one value: the records and the priorities stay as they are.
+pub fn force_decided(s: Sched, core: CoreId, named: Option<Tid>, m: &mut LentMemory) -> Decided
+    requires { Valid s (held m.old) }
+    ensures done { ForcePending core.0 (option_tid_meant named) result.answer result.switches s result.sched result.moves (held m.old) (held m.new) }
+    ensures records { m.new.threads.now ≡ m.old.threads.now }
+    ensures prios { m.new.prios.now ≡ m.old.prios.now }
+    ensures lent { SameLoans m.old m.new }
+{
+    let queue = &mut *m.queue;
+    let prios = &mut *m.prios;
+    let log = &mut *m.log;
+    let lanes = &mut *m.lanes;
+    force_decided_on_slices(s, core, named, queue, prios, log, lanes)
 }

@@ -8,7 +8,7 @@ ghost use Rattle.state.specs.State.{Valid};
 ghost use Rattle.switches.specs.Entries.{answer_with};
 ghost use Rattle.tick_plan.specs.DoneWith.{DoneWith};
 
-use force_plan::force::force_decided;
+use force_plan::force::force_decided_on_words;
 use model::{CoreId, ThreadInfo, Tid};
 use state::Sched;
 use state::memory::LentWords;
@@ -37,7 +37,7 @@ pub fn force_switch(
         log,
         lanes,
     };
-    let d = force_decided(s, core, named, &mut words);
+    let d = force_decided_on_words(s, core, named, &mut words);
     let lanes = &mut *words.lanes;
     apply_moves(threads, lanes, d.moves, s.now);
     d.ticked()

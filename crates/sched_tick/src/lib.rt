@@ -12,10 +12,10 @@ use state::memory::LentWords;
 use state::{Sched, unpack};
 use threads::{apply_moves, charge_all};
 use tick_plan::Ticked;
-use tick_plan::tick::{next_tick, tick_decided, tick_threads};
+use tick_plan::tick::{next_tick, tick_decided_on_words, tick_threads};
 
-// "Charge, then now + 1." The records are charged first, and what `tick_decided` decides is written into them at the new tick. Where the state is read after
-// `tick_decided`, every call of `apply` stores more of it.
+// "Charge, then now + 1." The records are charged first, and what `tick_decided_on_words` decides is written into them at the new tick. Where the
+// state is read after `tick_decided_on_words`, every call of `apply` stores more of it.
 pub fn end_tick(
     s: Sched,
     threads: &mut [ThreadInfo],
@@ -36,7 +36,7 @@ pub fn end_tick(
         log,
         lanes,
     };
-    let d = tick_decided(s, &mut words);
+    let d = tick_decided_on_words(s, &mut words);
     let lanes = &mut *words.lanes;
     apply_moves(threads, lanes, d.moves, next_tick(s));
     d.ticked()

@@ -9,7 +9,7 @@ ghost use Rattle.queue.specs.Ready.{waiting};
 ghost use Rattle.queue.specs.Words.{moves_in, made, Appended, NoLonger, StillLent};
 ghost use Rattle.turns.specs.Turns.{rules_meant, Short};
 ghost use Rattle.phases.specs.Cores.{board, pass_of};
-ghost use Rattle.state.specs.Memory.{memory, held_words, SameWords};
+ghost use Rattle.state.specs.Memory.{memory, held, held_words, SameLoans, SameWords};
 ghost use Rattle.state.specs.State.{firsts, packed, states_of, move_room, no_ticks, no_pos, lane_start, lane_words, log_words, Valid};
 ghost use Rattle.rings.specs.Ring.{RingOK};
 ghost use Rattle.quiet.specs.Quiet.{is_quiet, Roomy};
@@ -31,7 +31,7 @@ use queue::moves::Moves;
 use queue::ready::ReadyQueue;
 use quiet::{is_quiet, sliced_states};
 use rings::RingPos;
-use state::memory::LentWords;
+use state::memory::{LentMemory, LentWords};
 use state::{Eight, Sched, pack, state_in, unpack, words_of};
 use switches::{no_switches, switch_list};
 use turns::{Marks, Rules};
@@ -278,7 +278,7 @@ fn tick_taken(s: Sched, w: &mut LentWords) -> Decided
 }
 
 // All of a tick end but what it does to the thread records.
-pub fn tick_decided(s: Sched, w: &mut LentWords) -> Decided
+pub fn tick_decided_on_words(s: Sched, w: &mut LentWords) -> Decided
     requires { (ts : List ThreadInfo) × Valid s (held_words ts w.old) }
     ensures done { (ts : List ThreadInfo) → Valid s (held_words ts w.old)
         → TickPending result.answer result.switches s result.sched result.moves (held_words ts w.old) (held_words ts w.new) }
@@ -294,4 +294,41 @@ pub fn tick_decided(s: Sched, w: &mut LentWords) -> Decided
         },
         Ok(()) => tick_taken(s, w),
     }
+}
+
+// The same on the slices one by one: the parts of a `LentMemory` can be lent to it, and can't be made a `LentWords` where they are.
+fn tick_decided_on_slices(
+    s: Sched,
+    queue: &mut [u32],
+    prios: &[u32],
+    log: &mut [u64],
+    lanes: &mut [u64],
+) -> Decided
+    requires { (ts : List ThreadInfo) × Valid s (memory ts queue.old prios.now log.old lanes.old) }
+    ensures { (ts : List ThreadInfo) → Valid s (memory ts queue.old prios.now log.old lanes.old)
+        → TickPending result.answer result.switches s result.sched result.moves
+        (memory ts queue.old prios.now log.old lanes.old) (memory ts queue.new prios.now log.new lanes.new) }
+{
+    let mut words = LentWords {
+        queue,
+        prios,
+        log,
+        lanes,
+    };
+    tick_decided_on_words(s, &mut words)
+}
+
+// The same for a caller that has the lent memory as one value: the records and the priorities stay as they are.
+pub fn tick_decided(s: Sched, m: &mut LentMemory) -> Decided
+    requires { Valid s (held m.old) }
+    ensures done { TickPending result.answer result.switches s result.sched result.moves (held m.old) (held m.new) }
+    ensures records { m.new.threads.now ≡ m.old.threads.now }
+    ensures prios { m.new.prios.now ≡ m.old.prios.now }
+    ensures lent { SameLoans m.old m.new }
+{
+    let queue = &mut *m.queue;
+    let prios = &mut *m.prios;
+    let log = &mut *m.log;
+    let lanes = &mut *m.lanes;
+    tick_decided_on_slices(s, queue, prios, log, lanes)
 }

@@ -1,6 +1,6 @@
 use Rattle.checks.proofs.Answers.{taken_none}
 use Rattle.tick_plan.proofs.Ticking.{pending-refused}
-use Rattle.tick_plan.proofs.tick.tick_decided.Goals as goal
+use Rattle.tick_plan.proofs.tick.tick_decided_on_words.Goals as goal
 
 pub tick_taken-requires : goal.tick_taken-requires
 tick_taken-requires c = (taken_none _ _ c.in-Ok.is c.check_tick-answer.ensures, c.requires)

@@ -3,7 +3,7 @@ use Rattle.std.specs.Prelude.{unwrap_or}
 use Rattle.force_plan.proofs.Parts.{pending-refused, forceable}
 use Rattle.force_plan.specs.Plan.{place_check_meant}
 use Rattle.model.specs.Reading.{option_tid_meant}
-use Rattle.force_plan.proofs.force.force_decided.Goals as goal
+use Rattle.force_plan.proofs.force.force_decided_on_words.Goals as goal
 
 pub force_taken-requires : goal.force_taken-requires
 force_taken-requires c =
