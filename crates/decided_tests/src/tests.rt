@@ -107,7 +107,7 @@ fn run(case: Case) -> Result<Seen, Refusal> {
     })
 }
 
-// Nothing but the records, as they are lent.
+// The board as it is lent, where nothing is decided.
 fn nothing(answer: Result<(), Refusal>) -> Seen {
     Seen {
         answer,
